@@ -1,0 +1,2 @@
+pub mod FiniteField
+pub mod Below

@@ -1,0 +1,4 @@
+pub mod Prime
+pub mod Remainders
+pub mod Residues
+pub mod Primality
