@@ -1,0 +1,5 @@
+pub mod Memory
+pub mod Sums
+pub mod Layouts
+pub mod Words
+pub mod Tables

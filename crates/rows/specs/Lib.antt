@@ -1,0 +1,5 @@
+pub mod Memory
+pub mod Layout
+pub mod Arithmetic
+pub mod Tables
+pub mod Letters

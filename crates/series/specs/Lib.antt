@@ -1,0 +1,15 @@
+pub mod Comparing
+pub mod EliminationProgress
+pub mod Families
+pub mod Fresh
+pub mod Listing
+pub mod Operations
+pub mod Projecting
+pub mod Reducing
+pub mod Spans
+pub mod Sums
+pub mod Tables
+pub mod Theorems
+pub mod WalkProgress
+pub mod WordOrders
+pub mod Words
