@@ -2,12 +2,11 @@
 ghost use mathlib.Core.Path.{_≡_};
 ghost use Prim.Native.Nat.{ℕ, _+_, _*_, _/_, _%_, _<_, _≤_};
 ghost use lib.ListN.{length};
-ghost use Rattle.series.specs.Words.{Word, Over};
 ghost use Rattle.series.specs.Tables.{weight, beside};
 ghost use Rattle.series.specs.Operations.{sum-table};
 ghost use Rattle.rows.specs.Memory.{row-at, Written, RowsWritten};
 ghost use Rattle.rows.specs.Layout.{table-size, table-at};
-ghost use Rattle.rows.specs.Tables.{Lies, table-of, TableWritten};
+ghost use Rattle.rows.specs.Tables.{Lies, Weighs, table-of, TableWritten};
 use field::Field;
 use rows::blocks::clear_block;
 use rows::blocks::copy_block;
@@ -47,8 +46,7 @@ fn write_sum_row<F: Field>(
     requires letter_of_both { ⌜ 1 ≤ letter ⌝ ∗ ⌜ letter ≤ left .letters ⌝ ∗ ⌜ letter ≤ right .letters ⌝ }
     requires row_of_sum { ⌜ row < left .states + right .states ⌝ }
     requires to_within { ⌜ to + (left .states + right .states) ≤ length (now work) ⌝ }
-    ensures row_of_sum_table { λ _. ⌜ Written field value to (left .states + right .states)
-        (sum-table field (table-of field value (now (shelf .entry)) left) (table-of field value (now (shelf .entry)) right) .step letter row) (now (work .entry)) (now (work .exit)) ⌝ }
+    ensures row_of_sum_table { λ _. ⌜ Written field value to (left .states + right .states) (sum-table field (table-of field value (now (shelf .entry)) left) (table-of field value (now (shelf .entry)) right) .step letter row) (now (work .entry)) (now (work .exit)) ⌝ }
 {
     let n = left.states;
     let m = right.states;
@@ -67,9 +65,7 @@ fn write_sum_rows<F: Field>(shelf: &[F], left: TableAt, right: TableAt, work: &m
     requires right_lies { ⌜ Lies (length (now shelf)) right ⌝ }
     requires same_letters { ⌜ left .letters ≡ right .letters ⌝ }
     requires room { ⌜ to + left .letters * (left .states + right .states) * (left .states + right .states) ≤ length (now work) ⌝ }
-    ensures rows_of_sum_table { λ _. ⌜ RowsWritten field value to (left .letters * (left .states + right .states)) (left .states + right .states)
-        (λ r. sum-table field (table-of field value (now (shelf .entry)) left) (table-of field value (now (shelf .entry)) right) .step (r / (left .states + right .states) + 1) (r % (left .states + right .states)))
-        (now (work .entry)) (now (work .exit)) ⌝ }
+    ensures rows_of_sum_table { λ _. ⌜ RowsWritten field value to (left .letters * (left .states + right .states)) (left .states + right .states) (λ r. sum-table field (table-of field value (now (shelf .entry)) left) (table-of field value (now (shelf .entry)) right) .step (r / (left .states + right .states) + 1) (r % (left .states + right .states))) (now (work .entry)) (now (work .exit)) ⌝ }
 {
     let n = left.states + right.states;
     for r in 0..left.letters * n {
@@ -85,8 +81,7 @@ pub fn sum<F: Field>(shelf: &[F], left: TableAt, right: TableAt, work: &mut [F],
     requires few_states { ⌜ left .states + right .states ≤ 16 ⌝ }
     requires room { ⌜ to + table-size (left .states + right .states) (left .letters) ≤ length (now work) ⌝ }
     ensures sum_written { λ _. ⌜ TableWritten field value to (sum-table field (table-of field value (now (shelf .entry)) left) (table-of field value (now (shelf .entry)) right)) (now (work .entry)) (now (work .exit)) ⌝ }
-    ensures weighs_the_sum { λ _. ⌜ ((w : Word) → Over (left .letters) w → weight field (table-at field value (now (work .exit)) to (left .states + right .states) (left .letters)) w
-        ≡ field .plus (weight field (table-of field value (now (shelf .entry)) left) w) (weight field (table-of field value (now (shelf .entry)) right) w)) ⌝ }
+    ensures weighs_the_sum { λ _. ⌜ Weighs field (table-at field value (now (work .exit)) to (left .states + right .states) (left .letters)) (λ w. field .plus (weight field (table-of field value (now (shelf .entry)) left) w) (weight field (table-of field value (now (shelf .entry)) right) w)) ⌝ }
 {
     let made = TableAt {
         base: to,

@@ -3,12 +3,11 @@ ghost use mathlib.Core.Path.{_≡_};
 ghost use mathlib.Core.List.{_∷_};
 ghost use Prim.Native.Nat.{ℕ, _+_, _<_, _≤_};
 ghost use lib.ListN.{length};
-ghost use Rattle.series.specs.Words.{Word, Over};
 ghost use Rattle.series.specs.Tables.{weight, move};
 ghost use Rattle.series.specs.Operations.{scaled-table, after-table};
 ghost use Rattle.rows.specs.Memory.{row-at, square-at, Written, Copied};
 ghost use Rattle.rows.specs.Layout.{table-size, table-at, matrix-offset};
-ghost use Rattle.rows.specs.Tables.{Lies, table-of, TableWritten};
+ghost use Rattle.rows.specs.Tables.{Lies, Weighs, table-of, TableWritten};
 use field::Field;
 use rows::arithmetic::dot;
 use rows::arithmetic::scale_row;
@@ -30,8 +29,7 @@ pub fn scale<F: Field>(shelf: &[F], table: TableAt, factor: F, work: &mut [F], t
     requires table_lies { ⌜ Lies (length (now shelf)) table ⌝ }
     requires room { ⌜ to + table-size (table .states) (table .letters) ≤ length (now work) ⌝ }
     ensures scaled_written { λ _. ⌜ TableWritten field value to (scaled-table field (value factor) (table-of field value (now (shelf .entry)) table)) (now (work .entry)) (now (work .exit)) ⌝ }
-    ensures weighs_the_multiple { λ _. ⌜ ((w : Word) → Over (table .letters) w → weight field (table-at field value (now (work .exit)) to (table .states) (table .letters)) w
-        ≡ field .times (value factor) (weight field (table-of field value (now (shelf .entry)) table) w)) ⌝ }
+    ensures weighs_the_multiple { λ _. ⌜ Weighs field (table-at field value (now (work .exit)) to (table .states) (table .letters)) (λ w. field .times (value factor) (weight field (table-of field value (now (shelf .entry)) table) w)) ⌝ }
 {
     let made = TableAt { base: to, ..table };
     copy_block(shelf, table.base, work, to, table.size());
@@ -49,9 +47,7 @@ fn write_start_after<F: Field>(
     requires table_lies { ⌜ Lies (length (now shelf)) table ⌝ }
     requires letter_of_table { ⌜ 1 ≤ letter ⌝ ∗ ⌜ letter ≤ table .letters ⌝ }
     requires to_within { ⌜ to + table .states ≤ length (now work) ⌝ }
-    ensures row_after_letter { λ _. ⌜ Written field value to (table .states)
-        (move field (table .states) (square-at field value (now (shelf .entry)) (matrix-offset (table .base) (table .states) letter) (table .states)) (row-at field value (now (shelf .entry)) (table .base)))
-        (now (work .entry)) (now (work .exit)) ⌝ }
+    ensures row_after_letter { λ _. ⌜ Written field value to (table .states) (move field (table .states) (square-at field value (now (shelf .entry)) (matrix-offset (table .base) (table .states) letter) (table .states)) (row-at field value (now (shelf .entry)) (table .base))) (now (work .entry)) (now (work .exit)) ⌝ }
 {
     let n = table.states;
     let matrix = table.matrix(letter);
@@ -66,8 +62,7 @@ pub fn after<F: Field>(shelf: &[F], table: TableAt, letter: usize, work: &mut [F
     requires letter_of_table { ⌜ 1 ≤ letter ⌝ ∗ ⌜ letter ≤ table .letters ⌝ }
     requires room { ⌜ to + table-size (table .states) (table .letters) ≤ length (now work) ⌝ }
     ensures after_written { λ _. ⌜ TableWritten field value to (after-table field letter (table-of field value (now (shelf .entry)) table)) (now (work .entry)) (now (work .exit)) ⌝ }
-    ensures weighs_what_follows_the_letter { λ _. ⌜ ((w : Word) → Over (table .letters) w → weight field (table-at field value (now (work .exit)) to (table .states) (table .letters)) w
-        ≡ weight field (table-of field value (now (shelf .entry)) table) (letter ∷ w)) ⌝ }
+    ensures weighs_what_follows_the_letter { λ _. ⌜ Weighs field (table-at field value (now (work .exit)) to (table .states) (table .letters)) (λ w. weight field (table-of field value (now (shelf .entry)) table) (letter ∷ w)) ⌝ }
 {
     copy_block(shelf, table.base, work, to, table.size());
     write_start_after(shelf, table, letter, work, to);

@@ -2,12 +2,11 @@
 ghost use mathlib.Core.Path.{_≡_};
 ghost use Prim.Native.Nat.{ℕ, _+_, _*_, _/_, _%_, _<_, _≤_};
 ghost use lib.ListN.{length};
-ghost use Rattle.series.specs.Words.{Word, Over};
 ghost use Rattle.series.specs.Tables.{weight};
 ghost use Rattle.series.specs.Operations.{product-table, crossed};
 ghost use Rattle.rows.specs.Memory.{row-at, Written, RowsWritten};
 ghost use Rattle.rows.specs.Layout.{table-size, table-at};
-ghost use Rattle.rows.specs.Tables.{Lies, table-of, TableWritten};
+ghost use Rattle.rows.specs.Tables.{Lies, Weighs, table-of, TableWritten};
 use field::Field;
 use rows::layout::TableAt;
 
@@ -48,8 +47,7 @@ fn write_product_row<F: Field>(
     requires letter_of_both { ⌜ 1 ≤ letter ⌝ ∗ ⌜ letter ≤ left .letters ⌝ ∗ ⌜ letter ≤ right .letters ⌝ }
     requires state_of_product { ⌜ state < left .states * right .states ⌝ }
     requires to_within { ⌜ to + left .states * right .states ≤ length (now work) ⌝ }
-    ensures row_of_product_table { λ _. ⌜ Written field value to (left .states * right .states)
-        (product-table field (table-of field value (now (shelf .entry)) left) (table-of field value (now (shelf .entry)) right) .step letter state) (now (work .entry)) (now (work .exit)) ⌝ }
+    ensures row_of_product_table { λ _. ⌜ Written field value to (left .states * right .states) (product-table field (table-of field value (now (shelf .entry)) left) (table-of field value (now (shelf .entry)) right) .step letter state) (now (work .entry)) (now (work .exit)) ⌝ }
 {
     let m = right.states;
     write_products(
@@ -76,9 +74,7 @@ fn write_product_rows<F: Field>(
     requires same_letters { ⌜ left .letters ≡ right .letters ⌝ }
     requires few_states { ⌜ left .states * right .states ≤ 16 ⌝ }
     requires room { ⌜ to + left .letters * (left .states * right .states) * (left .states * right .states) ≤ length (now work) ⌝ }
-    ensures rows_of_product_table { λ _. ⌜ RowsWritten field value to (left .letters * (left .states * right .states)) (left .states * right .states)
-        (λ r. product-table field (table-of field value (now (shelf .entry)) left) (table-of field value (now (shelf .entry)) right) .step (r / (left .states * right .states) + 1) (r % (left .states * right .states)))
-        (now (work .entry)) (now (work .exit)) ⌝ }
+    ensures rows_of_product_table { λ _. ⌜ RowsWritten field value to (left .letters * (left .states * right .states)) (left .states * right .states) (λ r. product-table field (table-of field value (now (shelf .entry)) left) (table-of field value (now (shelf .entry)) right) .step (r / (left .states * right .states) + 1) (r % (left .states * right .states))) (now (work .entry)) (now (work .exit)) ⌝ }
 {
     let n = left.states * right.states;
     for r in 0..left.letters * n {
@@ -94,8 +90,7 @@ pub fn multiply<F: Field>(shelf: &[F], left: TableAt, right: TableAt, work: &mut
     requires few_states { ⌜ left .states * right .states ≤ 16 ⌝ }
     requires room { ⌜ to + table-size (left .states * right .states) (left .letters) ≤ length (now work) ⌝ }
     ensures product_written { λ _. ⌜ TableWritten field value to (product-table field (table-of field value (now (shelf .entry)) left) (table-of field value (now (shelf .entry)) right)) (now (work .entry)) (now (work .exit)) ⌝ }
-    ensures weighs_the_product { λ _. ⌜ ((w : Word) → Over (left .letters) w → weight field (table-at field value (now (work .exit)) to (left .states * right .states) (left .letters)) w
-        ≡ field .times (weight field (table-of field value (now (shelf .entry)) left) w) (weight field (table-of field value (now (shelf .entry)) right) w)) ⌝ }
+    ensures weighs_the_product { λ _. ⌜ Weighs field (table-at field value (now (work .exit)) to (left .states * right .states) (left .letters)) (λ w. field .times (weight field (table-of field value (now (shelf .entry)) left) w) (weight field (table-of field value (now (shelf .entry)) right) w)) ⌝ }
 {
     let made = TableAt {
         base: to,

@@ -4,12 +4,11 @@ ghost use mathlib.Core.Path.{_≡_};
 ghost use mathlib.Core.List.{reverse};
 ghost use Prim.Native.Nat.{ℕ, _+_, _*_, _/_, _%_, _<_, _≤_};
 ghost use lib.ListN.{length};
-ghost use Rattle.series.specs.Words.{Word, Over};
 ghost use Rattle.series.specs.Tables.{weight};
 ghost use Rattle.series.specs.Operations.{turned-table};
 ghost use Rattle.rows.specs.Memory.{at, Written, RowsWritten};
 ghost use Rattle.rows.specs.Layout.{table-size, table-at};
-ghost use Rattle.rows.specs.Tables.{Lies, table-of, TableWritten};
+ghost use Rattle.rows.specs.Tables.{Lies, Weighs, table-of, TableWritten};
 use field::Field;
 use rows::blocks::copy_block;
 use rows::layout::TableAt;
@@ -29,8 +28,7 @@ fn write_column<F: Field>(shelf: &[F], from: usize, n: usize, work: &mut [F], to
 fn write_turned_rows<F: Field>(shelf: &[F], table: TableAt, work: &mut [F], to: usize)
     requires table_lies { ⌜ Lies (length (now shelf)) table ⌝ }
     requires room { ⌜ to + table .letters * table .states * table .states ≤ length (now work) ⌝ }
-    ensures rows_of_turned_table { λ _. ⌜ RowsWritten field value to (table .letters * table .states) (table .states)
-        (λ r. turned-table field (table-of field value (now (shelf .entry)) table) .step (r / table .states + 1) (r % table .states)) (now (work .entry)) (now (work .exit)) ⌝ }
+    ensures rows_of_turned_table { λ _. ⌜ RowsWritten field value to (table .letters * table .states) (table .states) (λ r. turned-table field (table-of field value (now (shelf .entry)) table) .step (r / table .states + 1) (r % table .states)) (now (work .entry)) (now (work .exit)) ⌝ }
 {
     let n = table.states;
     for r in 0..table.letters * n {
@@ -43,8 +41,7 @@ pub fn turn<F: Field>(shelf: &[F], table: TableAt, work: &mut [F], to: usize)
     requires table_lies { ⌜ Lies (length (now shelf)) table ⌝ }
     requires room { ⌜ to + table-size (table .states) (table .letters) ≤ length (now work) ⌝ }
     ensures turned_written { λ _. ⌜ TableWritten field value to (turned-table field (table-of field value (now (shelf .entry)) table)) (now (work .entry)) (now (work .exit)) ⌝ }
-    ensures weighs_words_backwards { λ _. ⌜ ((w : Word) → Over (table .letters) w → weight field (table-at field value (now (work .exit)) to (table .states) (table .letters)) w
-        ≡ weight field (table-of field value (now (shelf .entry)) table) (reverse w)) ⌝ }
+    ensures weighs_words_backwards { λ _. ⌜ Weighs field (table-at field value (now (work .exit)) to (table .states) (table .letters)) (λ w. weight field (table-of field value (now (shelf .entry)) table) (reverse w)) ⌝ }
 {
     let n = table.states;
     let made = TableAt { base: to, ..table };

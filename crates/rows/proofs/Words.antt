@@ -10,7 +10,7 @@ use Rattle.series.specs.Words.{Word, Over}
 use Rattle.series.specs.Tables.{Table, move, row, Agree}
 use Rattle.series.proofs.Words.{over-append}
 use Rattle.series.proofs.Weights.{row-push, move-linear}
-use Rattle.rows.specs.Letters.{FirstOutside}
+use Rattle.rows.specs.Weighing.{FirstOutside}
 
 module _ (k : ℕ) (w : Word) (i : ℕ) (inside : i < length w) (before : Over k (take i w)) where
   pub over-more : 1 ≤ getD w i 0 → getD w i 0 ≤ k → Over k (take (i + 1) w)

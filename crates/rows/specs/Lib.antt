@@ -2,4 +2,4 @@ pub mod Memory
 pub mod Layout
 pub mod Arithmetic
 pub mod Tables
-pub mod Letters
+pub mod Weighing

@@ -1,8 +1,10 @@
 -- Tables that lie in a slice of elements, and a table that is written there. Assumes nothing.
+use mathlib.Core.Path.{_≡_}
 use mathlib.Core.List.{List}
 use Prim.Native.Nat.{ℕ, _+_, _≤_}
 use Rattle.field.specs.FiniteField.{FiniteField}
-use Rattle.series.specs.Tables.{Table, SameTable}
+use Rattle.series.specs.Words.{Word, Over}
+use Rattle.series.specs.Tables.{Table, SameTable, weight}
 use Rattle.rows.specs.declared.layout.TableAt.{TableAt}
 use Rattle.rows.specs.Layout.{table-size, table-at}
 use Rattle.rows.specs.Memory.{Frame}
@@ -17,6 +19,10 @@ pub record Lies (len : ℕ) (t : TableAt) : Type 0 where
 -- the table that lies where t says
 abbrev pub table-of : {F V : Type 0} → FiniteField V → (F → V) → List F → TableAt → Table V
 table-of K value xs t = table-at K value xs (t .base) (t .states) (t .letters)
+
+-- T weighs every word over its letters as f says
+abbrev pub Weighs : {V : Type 0} → FiniteField V → Table V → (Word → V) → Type 0
+Weighs K T f = (w : Word) → Over (T .letters) w → weight K T w ≡ f w
 
 -- the numbers of T lie at `to`, and every element outside its block is the very element it was
 pub record TableWritten {F V : Type 0} (K : FiniteField V) (value : F → V) (to : ℕ) (T : Table V) (xs ys : List F) : Type 0 where

@@ -1,13 +1,9 @@
 //! The weight of a word under a table that lies in memory.
-ghost use mathlib.Core.Path.{_≡_};
 ghost use Prim.Native.Nat.{_+_, _≤_};
 ghost use lib.ListN.{length};
-ghost use Rattle.std.specs.Results.{Cases};
-ghost use Rattle.series.specs.Words.{Over};
-ghost use Rattle.series.specs.Tables.{weight};
 ghost use Rattle.rows.specs.Memory.{Frame};
 ghost use Rattle.rows.specs.Tables.{Lies, table-of};
-ghost use Rattle.rows.specs.Letters.{FirstOutside};
+ghost use Rattle.rows.specs.Weighing.{Weighed};
 use crate::arithmetic::dot;
 use crate::arithmetic::row_times_matrix;
 use crate::blocks::copy_block;
@@ -20,9 +16,7 @@ use field::Field;
 pub fn weigh<F: Field>(shelf: &[F], table: TableAt, word: &[u8], work: &mut [F]) -> Result<F, usize>
     requires table_lies { ⌜ Lies (length (now shelf)) table ⌝ }
     requires two_rows_fit { ⌜ table .states + table .states ≤ length (now work) ⌝ }
-    ensures weight_or_first_letter_outside { λ r. ⌜ Cases r
-        (λ x. Over (table .letters) (now (word .entry)) × (value x ≡ weight field (table-of field value (now (shelf .entry)) table) (now (word .entry))))
-        (λ p. FirstOutside (table .letters) (now (word .entry)) p) ⌝ }
+    ensures weight_or_first_letter_outside { λ r. ⌜ Weighed field value (table-of field value (now (shelf .entry)) table) (now (word .entry)) r ⌝ }
     ensures two_rows_used { λ _. ⌜ Frame 0 (table .states + table .states) (now (work .entry)) (now (work .exit)) ⌝ }
 {
     let n = table.states;
