@@ -1,0 +1,10 @@
+pub mod Refusals
+pub mod Shelves
+pub mod Calls
+pub mod Refusing
+pub mod Verdicts
+pub mod Doing
+pub mod Using
+pub mod Running
+pub mod Law
+pub mod Settling
