@@ -1,0 +1,4 @@
+pub mod Views
+pub mod Checking
+pub mod Clearing
+pub mod Performing
