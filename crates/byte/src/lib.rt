@@ -1,4 +1,6 @@
 //! GF(256): bytes, summed by exclusive or and multiplied as polynomials reduced by t^8 + t^4 + t^3 + t + 1. The byte is the code.
+#![tactic(auto)]
+
 ghost use Rattle.std.specs.Prelude.{◌≡◌, ℕ, ◌<◌, ◌≤◌};
 ghost use Rattle.field.specs.Below.{Below};
 ghost use Rattle.byte.specs.Product.{product as bytewise};

@@ -1,5 +1,7 @@
 //! What the programs share: the words of a command line, the choice of a field, files read up to a bound, and refusals in
 //! words.
+#![tactic(auto)]
+
 pub mod choice;
 pub mod files;
 pub mod offered;

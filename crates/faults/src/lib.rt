@@ -1,4 +1,6 @@
 //! What a text is refused for, and where.
+#![tactic(auto)]
+
 ghost use Rattle.std.specs.Prelude.{◌≡◌};
 ghost use Rattle.faults.specs.declared.LineFault.TheVariants.{Column};
 ghost use Rattle.faults.specs.declared.LoadFault.TheVariants.{Line};

@@ -1,5 +1,7 @@
 //! A finite field as an interface. Its meaning is the value that each element stands for; several elements may stand
 //! for one value, and what a function answers depends on values alone.
+#![tactic(auto)]
+
 ghost use Rattle.std.specs.Prelude.{◌≡◌, ℕ, ◌<◌, ◌≤◌, Decides, MatchOption, ◌≢◌};
 ghost use Rattle.field.specs.FiniteField.{FiniteField};
 

@@ -1,4 +1,5 @@
 //! Tests of the fields on worked examples: products, inverses, and codes at the edge.
+#![tactic(auto)]
 
 #[cfg(test)]
 mod tests {

@@ -1,4 +1,6 @@
 //! Worked figures: small results of the library's definitions, each established from them.
+#![tactic(auto)]
+
 ghost use Rattle.std.specs.Prelude.{[], ◌∷◌};
 ghost use Rattle.figures.specs.Figures.{WorkedFigures};
 

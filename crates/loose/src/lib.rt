@@ -1,5 +1,7 @@
 //! A field for tests: residues that are reduced late, so that several elements stand for one value. Generic code that
 //! looks at elements where it should look at values does not get past it.
+#![tactic(auto)]
+
 ghost use Rattle.std.specs.Prelude.{◌≡◌, ℕ, ◌^◌, ◌<◌, ◌≤◌};
 ghost use Rattle.field.specs.Below.{Below};
 ghost use Rattle.residue.specs.Residues.{residue_of, residues};

@@ -1,4 +1,6 @@
 //! Tests of the tables made of tables: the weights of five words under each, over several fields.
+#![tactic(auto)]
+
 ghost use Rattle.std.specs.Prelude.{◌+◌, ◌≤◌, length};
 ghost use Rattle.rows.specs.Tables.{Lies};
 

@@ -1,4 +1,6 @@
 //! Packs a table: reads its text, reduces it, compares the two, and writes the text of the reduced form.
+#![tactic(auto)]
+
 use anyhow::anyhow;
 use book::refusal::Refusal;
 use byte::Byte;

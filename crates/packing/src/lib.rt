@@ -1,4 +1,6 @@
 //! Packing: from the text of a table to the text of the smallest table that weighs every word alike.
+#![tactic(auto)]
+
 ghost use Rattle.std.specs.Prelude.{◌≡◌, map, length, MatchResult};
 ghost use Rattle.book.specs.Shelves.{at_place, empty, states_of};
 ghost use Rattle.shelf.specs.Views.{entry_of};

@@ -1,4 +1,6 @@
 //! A text read in place, item by item: what is due, and where a reader stops.
+#![tactic(auto)]
+
 ghost use Rattle.std.specs.Prelude.{◌≡◌, ℕ, ◌-◌, ◌^◌, ◌<◌, ◌≤◌, [], ◌∷◌, length, MatchResult};
 ghost use Rattle.columns.specs.Numbers.{number};
 ghost use Rattle.columns.specs.Lines.{due_letter, next};

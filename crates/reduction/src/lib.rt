@@ -1,5 +1,7 @@
 //! The reduced form of a table: the least table with its weights, written in lent memory. It knows nothing of places,
 //! entries or refusals.
+#![tactic(auto)]
+
 ghost use Rattle.std.specs.Prelude.{◌≡◌, ◌≤◌, length};
 ghost use Rattle.series.specs.Reducing.{Reduced};
 ghost use Rattle.series.specs.Tables.{weight};

@@ -1,4 +1,6 @@
 //! Tests of reducing on worked examples, number for number, over several fields.
+#![tactic(auto)]
+
 ghost use Rattle.std.specs.Prelude.{ℕ, ◌≤◌, length};
 ghost use Rattle.rows.specs.Tables.{Lies};
 

@@ -1,5 +1,7 @@
 //! What is to be told of two texts of tables, as one line: whether they weigh every word alike, which word is the first
 //! that they do not, or why they cannot be compared. It is exported to C.
+#![tactic(auto)]
+
 ghost use Rattle.std.specs.Prelude.{◌≡◌, ◌≤◌, ◌↔◌, length, slice_index};
 ghost use Rattle.residue.specs.Delivered.{bits, fermat};
 ghost use Rattle.byte.specs.Bytes.{bytes};

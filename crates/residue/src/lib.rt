@@ -1,4 +1,6 @@
 //! Residues modulo a prime: one arithmetic for every modulus that is shown to be prime. The residue is the code.
+#![tactic(auto)]
+
 ghost use Rattle.std.specs.Prelude.{◌≡◌, ℕ, ◌<◌, ◌≤◌};
 ghost use Rattle.field.specs.Below.{Below};
 ghost use Rattle.residue.specs.Prime.{Prime};

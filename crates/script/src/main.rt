@@ -1,5 +1,7 @@
 //! Performs the script on standard input: calls on a shelf, a line each, whose outcomes are printed. Where the script has
 //! mistakes, they are told on standard error, and nothing is performed.
+#![tactic(auto)]
+
 use anyhow::anyhow;
 use scripting::performing::{Told, run};
 use scripting::reading::{Line, read};

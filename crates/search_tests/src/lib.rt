@@ -1,4 +1,6 @@
 //! Tests of the comparison on worked examples: words as long as they can be, equal tables, tables of zeros or without states.
+#![tactic(auto)]
+
 ghost use Rattle.std.specs.Prelude.{◌≡◌, ◌≤◌, length};
 ghost use Rattle.rows.specs.Tables.{Lies};
 

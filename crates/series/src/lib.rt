@@ -1,5 +1,7 @@
 //! The mathematics of sequence tables, over every lawful field. A theorem is a function that gives back what it is
 //! given: its promise is the theorem, which the check therefore asks for. The statements are in specs/Theorems.antt.
+#![tactic(auto)]
+
 ghost use Rattle.std.specs.Prelude.{◌≡◌, ℕ, ◌+◌, ◌*◌, ◌<◌, ◌≤◌, ◌∷◌, reverse};
 ghost use Rattle.series.specs.Words.{◌≺◌};
 ghost use Rattle.series.specs.WordOrders.{WordOrder};

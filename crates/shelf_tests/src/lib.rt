@@ -1,5 +1,7 @@
 //! Tests of the shelf: every refusal of every call with all that it leaves as it was, results put where they are read
 //! from, and lists of calls. Expected numbers were worked out by another program.
+#![tactic(auto)]
+
 ghost use Rattle.std.specs.Prelude.{◌≤◌, length};
 
 #[cfg(test)]

@@ -1,4 +1,6 @@
 //! The column text of a sequence table: its reader, and what holds of every text.
+#![tactic(auto)]
+
 mod lines;
 pub mod shape;
 pub mod table;

@@ -1,4 +1,6 @@
 //! Runs the reader and the writer of the column text on texts whose verdicts are known, and prints what they say.
+#![tactic(auto)]
+
 mod cases;
 mod numbers;
 mod tally;

@@ -1,5 +1,7 @@
 //! A tour of the library over GF(65537): reads the text of the Fibonacci table, multiplies the table by itself, packs the
 //! product, compares, and prints what it found and the packed table's text.
+#![tactic(auto)]
+
 ghost use Rattle.std.specs.Prelude.{length};
 ghost use Rattle.rows.specs.Tables.{Lies};
 

@@ -1,5 +1,7 @@
 //! Performs the script in the file `script.txt`, then reports on the pairs of texts in the file `pairs.bin`, and prints
 //! what is told of both. What is expected was computed by the independent program in the folder `tests`.
+#![tactic(auto)]
+
 use anyhow::{Context, anyhow};
 use report::report;
 use scripting::decimal::number;

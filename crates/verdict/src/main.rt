@@ -1,4 +1,6 @@
 //! Compares two tables: reads their texts, and writes the line that reports on them.
+#![tactic(auto)]
+
 ghost use Rattle.std.specs.Prelude.{◌≤◌, length, IfOk};
 
 use anyhow::anyhow;
