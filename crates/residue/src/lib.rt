@@ -43,7 +43,7 @@ where
 
     ghost value = { λ x. record { n = x.n; below = x.below } };
 
-    ghost field = { residues P prime };
+    ghost field = { residues P bound-1.prime };
 
     fn zero() -> Residue<P> {
         Residue { n: 0 }

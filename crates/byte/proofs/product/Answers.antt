@@ -11,7 +11,7 @@ loop-i-init c = (omega arith, start c.args.a c.args.b)
 
 pub loop-i-preserved : goal.loop-i-preserved
 loop-i-preserved c =
-    (half_raised_lt c.loop-i.x c.loop-i.invariant.0, turn c.loop-i.-i c.loop-i.sum c.loop-i.x c.loop-i.y (omega arith) c.loop-i.invariant.0 ∙ c.loop-i.invariant.1)
+    (half_raised_lt c.loop-i.x c.loop-i.invariant.0, turn c.loop-i._i c.loop-i.sum c.loop-i.x c.loop-i.y (omega arith) c.loop-i.invariant.0 ∙ c.loop-i.invariant.1)
 
 pub returns : goal.returns
-returns c = record { is_product = sym (ends c.loop-i.-i c.loop-i.sum c.loop-i.x c.loop-i.y (omega arith)) ∙ c.loop-i.invariant.1 }
+returns c = record { is_product = sym (ends c.loop-i._i c.loop-i.sum c.loop-i.x c.loop-i.y (omega arith)) ∙ c.loop-i.invariant.1 }

@@ -4,4 +4,4 @@ use Rattle.byte.specs.Product.{partial, product}
 use Rattle.byte.proofs.product.Given as goal
 
 abbrev pub invariant-loop-i : goal.invariant-loop-i
-invariant-loop-i l = (l.x < 256) × (bit_xor l.sum (partial (8 - l.-i) l.x l.y) ≡ product l.initial.x l.initial.y)
+invariant-loop-i l = (l.x < 256) × (bit_xor l.sum (partial (8 - l._i) l.x l.y) ≡ product l.initial.x l.initial.y)

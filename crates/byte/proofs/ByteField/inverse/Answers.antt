@@ -13,7 +13,7 @@ loop-i-init c = power_start c.args.self.n
 
 pub loop-i-preserved : goal.loop-i-preserved
 loop-i-preserved c =
-    power_turn c.loop-i.-i c.loop-i.r c.loop-i.s c.product-s.result c.product-r.result c.loop-i-test.true c.product-s.ensures.is_product c.product-r.ensures.is_product
+    power_turn c.loop-i._i c.loop-i.r c.loop-i.s c.product-s.result c.product-r.result c.loop-i-test.true c.product-s.ensures.is_product c.product-r.ensures.is_product
     ∙ c.loop-i.invariant
 
 pub invariant-of-result : goal.invariant-of-result
@@ -23,5 +23,5 @@ invariant-of-result c =
 
 pub returns : goal.returns
 returns c =
-    let e : c.loop-i.r ≡ inverse_of c.args.self.n = sym (power_ends c.loop-i.-i c.loop-i.r c.loop-i.s c.loop-i-test.false) ∙ c.loop-i.invariant in
+    let e : c.loop-i.r ≡ inverse_of c.args.self.n = sym (power_ends c.loop-i._i c.loop-i.r c.loop-i.s c.loop-i-test.false) ∙ c.loop-i.invariant in
     record { is_inverse_unless_zero = (λ z. c.if-self-eq0.false (ap (λ x. x.n) z), same_below _ _ e) }
