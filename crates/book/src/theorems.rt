@@ -9,7 +9,7 @@ use text::theorems::{one_text_one_table, one_verdict};
 /// Every use follows the book: a word that compare reports has fewer letters than both tables have states together, and
 /// what reduce leaves has at most as many states as any table with its weights.
 pub fn uses_follow_the_book<F: Field>(x: F) -> F
-    ensures law { UsesFollowTheBook field value (λ n m. n + m) (λ r t. r ≤ t) }
+    ensures law { UsesFollowTheBook F.field F.value (λ n m. n + m) (λ r t. r ≤ t) }
 {
     one_text_one_table(x)
 }
@@ -17,7 +17,7 @@ pub fn uses_follow_the_book<F: Field>(x: F) -> F
 /// What comes of a call is settled by the definitions: one outcome, and one state after, by value. So is what comes of
 /// a list of calls.
 pub fn outcomes_are_settled<F: Field>(x: F) -> F
-    ensures settled { OutcomesAreSettled field value 8 }
+    ensures settled { OutcomesAreSettled F.field F.value 8 }
 {
     one_verdict(one_text_one_table(x))
 }

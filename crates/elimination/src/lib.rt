@@ -24,9 +24,9 @@ pub fn reduce_row<F: Field>(
     requires vector_within { vector + n ≤ length work.old }
     requires rows_within { rows + count * n ≤ length work.old }
     requires apart { Apart rows (count * n) vector n }
-    requires echelon { Echelon field (λ i. i < n) count (square_at field value work.old rows n) (λ b. slice_index pivots.now b) }
-    requires ones_at_pivots { (b : ℕ) → b < count → square_at field value work.old rows n b (slice_index pivots.now b) ≡ field.one }
-    ensures remainder { Remainder field n count (square_at field value work.old rows n) (λ b. slice_index pivots.now b) (row_at field value work.old vector) (row_at field value work.new vector) }
+    requires echelon { Echelon F.field (λ i. i < n) count (square_at F.field F.value work.old rows n) (λ b. slice_index pivots.now b) }
+    requires ones_at_pivots { (b : ℕ) → b < count → square_at F.field F.value work.old rows n b (slice_index pivots.now b) ≡ F.field.one }
+    ensures remainder { Remainder F.field n count (square_at F.field F.value work.old rows n) (λ b. slice_index pivots.now b) (row_at F.field F.value work.old vector) (row_at F.field F.value work.new vector) }
     ensures all_else_unchanged { Frame vector n work.old work.new }
 {
     for b in 0..count {
@@ -48,11 +48,11 @@ pub fn keep_row<F: Field>(
     requires small { (n ≤ 32) × (count ≤ n) }
     requires from_within { from + n ≤ rows }
     requires rows_within { rows + (count * n + n) ≤ length work.old }
-    requires echelon { Echelon field (λ i. i < n) count (square_at field value work.old rows n) (λ b. slice_index pivots.now b) }
-    requires ones_at_pivots { (b : ℕ) → b < count → square_at field value work.old rows n b (slice_index pivots.now b) ≡ field.one }
+    requires echelon { Echelon F.field (λ i. i < n) count (square_at F.field F.value work.old rows n) (λ b. slice_index pivots.now b) }
+    requires ones_at_pivots { (b : ℕ) → b < count → square_at F.field F.value work.old rows n b (slice_index pivots.now b) ≡ F.field.one }
     ensures nothing_left_or_new_row { MatchOption result
-        (NothingLeft field n count (square_at field value work.old rows n) (λ b. slice_index pivots.now b) (row_at field value work.old from))
-        (λ p. NewRow field n count (square_at field value work.old rows n) (λ b. slice_index pivots.now b) (row_at field value work.old from) p (row_at field value work.new (rows + count * n))) }
+        (NothingLeft F.field n count (square_at F.field F.value work.old rows n) (λ b. slice_index pivots.now b) (row_at F.field F.value work.old from))
+        (λ p. NewRow F.field n count (square_at F.field F.value work.old rows n) (λ b. slice_index pivots.now b) (row_at F.field F.value work.old from) p (row_at F.field F.value work.new (rows + count * n))) }
     ensures all_else_unchanged { Frame (rows + count * n) n work.old work.new }
 {
     let last = rows + count * n;

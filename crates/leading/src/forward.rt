@@ -23,8 +23,8 @@ use spanning::plan::{COEFFICIENTS, TRACKED, WORD_ROWS};
 fn see_row<F: Field>(work: &mut [F], count: usize, n: usize, d: usize)
     requires small { (n ≤ 16) × ((d ≤ 16) × (count ≤ 16)) }
     requires room { 8192 ≤ length work.old }
-    ensures products_written { Agree d (row_at field value work.new (tracked_at + count * 32)) (λ j. product field n (row_at field value work.old (word_row_at count)) (row_at field value work.old (column_at j))) }
-    ensures no_coefficients { Bare field 0 (row_at field value work.new (tracked_at + count * 32)) }
+    ensures products_written { Agree d (row_at F.field F.value work.new (tracked_at + count * 32)) (λ j. product F.field n (row_at F.field F.value work.old (word_row_at count)) (row_at F.field F.value work.old (column_at j))) }
+    ensures no_coefficients { Bare F.field 0 (row_at F.field F.value work.new (tracked_at + count * 32)) }
     ensures all_else_unchanged { Frame (tracked_at + count * 32) 32 work.old work.new }
 {
     let to = TRACKED + count * 32;
@@ -46,11 +46,11 @@ fn next_row<F: Field>(
     requires room { 8192 ≤ length work.old }
     requires small { (d ≤ 16) × ((count ≤ d) × (i < count)) }
     requires letter_of_table { (1 ≤ letter) × (letter ≤ table.letters) }
-    ensures all_else_unmoved { Unmoved field value count (i * 128 + letter * 16) work.old work.new }
-    ensures row_of_next_word { (u : Word) → Agree table.states (row_at field value work.old (word_row_at i)) (row field (table_of field value shelf.now table) u)
-        → Agree table.states (row_at field value work.new (word_row_at count)) (row field (table_of field value shelf.now table) (u ++ letter ∷ [])) }
-    ensures products_written { Agree d (row_at field value work.new (tracked_at + count * 32)) (λ j. product field table.states (row_at field value work.new (word_row_at count)) (row_at field value work.new (column_at j))) }
-    ensures no_coefficients { Bare field 0 (row_at field value work.new (tracked_at + count * 32)) }
+    ensures all_else_unmoved { Unmoved F.field F.value count (i * 128 + letter * 16) work.old work.new }
+    ensures row_of_next_word { (u : Word) → Agree table.states (row_at F.field F.value work.old (word_row_at i)) (row F.field (table_of F.field F.value shelf.now table) u)
+        → Agree table.states (row_at F.field F.value work.new (word_row_at count)) (row F.field (table_of F.field F.value shelf.now table) (u ++ letter ∷ [])) }
+    ensures products_written { Agree d (row_at F.field F.value work.new (tracked_at + count * 32)) (λ j. product F.field table.states (row_at F.field F.value work.new (word_row_at count)) (row_at F.field F.value work.new (column_at j))) }
+    ensures no_coefficients { Bare F.field 0 (row_at F.field F.value work.new (tracked_at + count * 32)) }
 {
     row_times_matrix(
         work,
@@ -76,8 +76,8 @@ fn try_letter<F: Field>(
     requires lies { Lies (length shelf.now) table }
     requires room { 8192 ≤ length work.old }
     requires letter_of_table { (1 ≤ letter) × (letter ≤ table.letters) }
-    requires due { Trying field value (table_of field value shelf.now table) d i letter found.old work.old }
-    ensures next_due { Trying field value (table_of field value shelf.now table) d i (letter + 1) found.new work.new }
+    requires due { Trying F.field F.value (table_of F.field F.value shelf.now table) d i letter found.old work.old }
+    ensures next_due { Trying F.field F.value (table_of F.field F.value shelf.now table) d i (letter + 1) found.new work.new }
     ensures length_kept { length work.new ≡ length work.old }
 {
     let count = found.count;
@@ -103,8 +103,8 @@ fn try_letters<F: Field>(
 )
     requires lies { Lies (length shelf.now) table }
     requires room { 8192 ≤ length work.old }
-    requires due { Trying field value (table_of field value shelf.now table) d i 1 found.old work.old }
-    ensures all_tried { Trying field value (table_of field value shelf.now table) d i (table.letters + 1) found.new work.new }
+    requires due { Trying F.field F.value (table_of F.field F.value shelf.now table) d i 1 found.old work.old }
+    ensures all_tried { Trying F.field F.value (table_of F.field F.value shelf.now table) d i (table.letters + 1) found.new work.new }
     ensures length_kept { length work.new ≡ length work.old }
 {
     for a in 1..table.letters + 1 {
@@ -116,8 +116,8 @@ fn try_letters<F: Field>(
 fn follow_words<F: Field>(work: &mut [F], found: &mut Found, shelf: &[F], table: TableAt, d: usize)
     requires lies { Lies (length shelf.now) table }
     requires room { 8192 ≤ length work.old }
-    requires begun { Walked field value (table_of field value shelf.now table) d 0 found.old work.old }
-    ensures walked { Walked field value (table_of field value shelf.now table) d found.new.count found.new work.new }
+    requires begun { Walked F.field F.value (table_of F.field F.value shelf.now table) d 0 found.old work.old }
+    ensures walked { Walked F.field F.value (table_of F.field F.value shelf.now table) d found.new.count found.new work.new }
     ensures length_kept { length work.new ≡ length work.old }
 {
     let mut i = 0;
@@ -132,8 +132,8 @@ fn try_empty<F: Field>(work: &mut [F], found: &mut Found, shelf: &[F], table: Ta
     requires lies { Lies (length shelf.now) table }
     requires room { 8192 ≤ length work.old }
     requires none_found { found.old.count ≡ 0 }
-    requires spanned { Spanned field value (table_of field value shelf.now table) d work.old }
-    ensures begun { Walked field value (table_of field value shelf.now table) d 0 found.new work.new }
+    requires spanned { Spanned F.field F.value (table_of F.field F.value shelf.now table) d work.old }
+    ensures begun { Walked F.field F.value (table_of F.field F.value shelf.now table) d 0 found.new work.new }
     ensures length_kept { length work.new ≡ length work.old }
 {
     copy_block(shelf, table.base, work, WORD_ROWS, table.states);
@@ -149,8 +149,8 @@ fn try_empty<F: Field>(work: &mut [F], found: &mut Found, shelf: &[F], table: Ta
 pub fn leading_words<F: Field>(work: &mut [F], shelf: &[F], table: TableAt, d: usize) -> usize
     requires lies { Lies (length shelf.now) table }
     requires room { 8192 ≤ length work.old }
-    requires spanned { Spanned field value (table_of field value shelf.now table) d work.old }
-    ensures finished { Finished field value (table_of field value shelf.now table) d result work.new }
+    requires spanned { Spanned F.field F.value (table_of F.field F.value shelf.now table) d work.old }
+    ensures finished { Finished F.field F.value (table_of F.field F.value shelf.now table) d result work.new }
     ensures length_kept { length work.new ≡ length work.old }
 {
     let mut found = Found {

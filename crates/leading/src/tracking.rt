@@ -20,12 +20,12 @@ pub fn track_row<F: Field>(
 ) -> Option<usize>
     requires small { (d ≤ 16) × (count ≤ d) }
     requires room { 8192 ≤ length work.old }
-    requires echelon { Echelon field (λ i. i < d) count (square_at field value work.old tracked_at 32) (λ b. slice_index pivots.now b) }
-    requires ones_at_pivots { (b : ℕ) → b < count → square_at field value work.old tracked_at 32 b (slice_index pivots.now b) ≡ field.one }
-    requires no_coefficients { Bare field 0 (row_at field value work.old (tracked_at + count * 32)) }
+    requires echelon { Echelon F.field (λ i. i < d) count (square_at F.field F.value work.old tracked_at 32) (λ b. slice_index pivots.now b) }
+    requires ones_at_pivots { (b : ℕ) → b < count → square_at F.field F.value work.old tracked_at 32 b (slice_index pivots.now b) ≡ F.field.one }
+    requires no_coefficients { Bare F.field 0 (row_at F.field F.value work.old (tracked_at + count * 32)) }
     ensures combination_or_new_row { MatchOption result
-        (Combines field d count (square_at field value work.old tracked_at 32) (λ b. slice_index pivots.now b) (row_at field value work.old (tracked_at + count * 32)) (row_at field value work.new (tracked_at + count * 32)))
-        (λ p. Extends field d count (square_at field value work.old tracked_at 32) (λ b. slice_index pivots.now b) (row_at field value work.old (tracked_at + count * 32)) p (row_at field value work.new (tracked_at + count * 32))) }
+        (Combines F.field d count (square_at F.field F.value work.old tracked_at 32) (λ b. slice_index pivots.now b) (row_at F.field F.value work.old (tracked_at + count * 32)) (row_at F.field F.value work.new (tracked_at + count * 32)))
+        (λ p. Extends F.field d count (square_at F.field F.value work.old tracked_at 32) (λ b. slice_index pivots.now b) (row_at F.field F.value work.old (tracked_at + count * 32)) p (row_at F.field F.value work.new (tracked_at + count * 32))) }
     ensures pivot_and_room { MatchOption result (count ≤ d) (λ p. (p < d) × (count < d)) }
     ensures all_else_unchanged { Frame (tracked_at + count * 32) 32 work.old work.new }
 {

@@ -16,7 +16,7 @@ pub fn project_row<F: Field>(work: &mut [F], from: usize, to: usize, n: usize, d
     requires row_before { from + n ≤ to }
     requires columns_before { column_at 16 ≤ to }
     requires to_within { to + d ≤ length work.old }
-    ensures products_written { Written field value to d (λ j. product field n (row_at field value work.old from) (row_at field value work.old (column_at j))) work.old work.new }
+    ensures products_written { Written F.field F.value to d (λ j. product F.field n (row_at F.field F.value work.old from) (row_at F.field F.value work.old (column_at j))) work.old work.new }
 {
     for j in 0..d {
         let x = dot(work, from, work, COLUMNS + j * 16, 1, n);
@@ -28,7 +28,7 @@ pub fn project_row<F: Field>(work: &mut [F], from: usize, to: usize, n: usize, d
 pub fn negate_row<F: Field>(work: &mut [F], from: usize, to: usize, n: usize)
     requires from_before { from + n ≤ to }
     requires to_within { to + n ≤ length work.old }
-    ensures opposites_written { Written field value to n (λ j. field.opposite (row_at field value work.old from j)) work.old work.new }
+    ensures opposites_written { Written F.field F.value to n (λ j. F.field.opposite (row_at F.field F.value work.old from j)) work.old work.new }
 {
     for j in 0..n {
         work[to + j] = work[from + j].neg();
@@ -38,7 +38,7 @@ pub fn negate_row<F: Field>(work: &mut [F], from: usize, to: usize, n: usize)
 /// Writes to `to` the row of n elements that is one at `place`, if it is that long, and zero elsewhere.
 pub fn unit_row<F: Field>(work: &mut [F], to: usize, n: usize, place: usize)
     requires to_within { to + n ≤ length work.old }
-    ensures unit_written { Written field value to n (unit field place) work.old work.new }
+    ensures unit_written { Written F.field F.value to n (unit F.field place) work.old work.new }
 {
     clear_block(work, to, n);
     if place < n {

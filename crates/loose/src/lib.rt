@@ -22,9 +22,9 @@ where
 {
     ghost Value = { Below P };
 
-    ghost value = { λ x. residue_of P prime x.n };
+    ghost value = { λ x. residue_of P bound-1.prime x.n };
 
-    ghost field = { residues P prime };
+    ghost field = { residues P bound-1.prime };
 
     fn zero() -> Loose<P> {
         Loose { n: 0 }

@@ -23,7 +23,7 @@ fn write_beside<F: Field>(
     requires left_within { left + n ≤ length shelf.now }
     requires right_within { right + m ≤ length shelf.now }
     requires to_within { to + (n + m) ≤ length work.old }
-    ensures rows_beside { Written field value to (n + m) (beside n (row_at field value shelf.now left) (row_at field value shelf.now right)) work.old work.new }
+    ensures rows_beside { Written F.field F.value to (n + m) (beside n (row_at F.field F.value shelf.now left) (row_at F.field F.value shelf.now right)) work.old work.new }
 {
     copy_block(shelf, left, work, to, n);
     copy_block(shelf, right, work, to + n, m);
@@ -44,7 +44,7 @@ fn write_sum_row<F: Field>(
     requires letter_of_both { (1 ≤ letter) × ((letter ≤ left.letters) × (letter ≤ right.letters)) }
     requires row_of_sum { row < left.states + right.states }
     requires to_within { to + (left.states + right.states) ≤ length work.old }
-    ensures row_of_sum_table { Written field value to (left.states + right.states) ((sum_table field (table_of field value shelf.now left) (table_of field value shelf.now right)).step letter row) work.old work.new }
+    ensures row_of_sum_table { Written F.field F.value to (left.states + right.states) ((sum_table F.field (table_of F.field F.value shelf.now left) (table_of F.field F.value shelf.now right)).step letter row) work.old work.new }
 {
     let n = left.states;
     let m = right.states;
@@ -63,7 +63,7 @@ fn write_sum_rows<F: Field>(shelf: &[F], left: TableAt, right: TableAt, work: &m
     requires right_lies { Lies (length shelf.now) right }
     requires same_letters { left.letters ≡ right.letters }
     requires room { to + left.letters * (left.states + right.states) * (left.states + right.states) ≤ length work.old }
-    ensures rows_of_sum_table { RowsWritten field value to (left.letters * (left.states + right.states)) (left.states + right.states) (λ r. (sum_table field (table_of field value shelf.now left) (table_of field value shelf.now right)).step (r / (left.states + right.states) + 1) (r % (left.states + right.states))) work.old work.new }
+    ensures rows_of_sum_table { RowsWritten F.field F.value to (left.letters * (left.states + right.states)) (left.states + right.states) (λ r. (sum_table F.field (table_of F.field F.value shelf.now left) (table_of F.field F.value shelf.now right)).step (r / (left.states + right.states) + 1) (r % (left.states + right.states))) work.old work.new }
 {
     let n = left.states + right.states;
     for r in 0..left.letters * n {
@@ -78,8 +78,8 @@ pub fn sum<F: Field>(shelf: &[F], left: TableAt, right: TableAt, work: &mut [F],
     requires same_letters { left.letters ≡ right.letters }
     requires few_states { left.states + right.states ≤ 16 }
     requires room { to + table_size (left.states + right.states) left.letters ≤ length work.old }
-    ensures sum_written { TableWritten field value to (sum_table field (table_of field value shelf.now left) (table_of field value shelf.now right)) work.old work.new }
-    ensures weighs_the_sum { Weighs field (table_at field value work.new to (left.states + right.states) left.letters) (λ w. field.plus (weight field (table_of field value shelf.now left) w) (weight field (table_of field value shelf.now right) w)) }
+    ensures sum_written { TableWritten F.field F.value to (sum_table F.field (table_of F.field F.value shelf.now left) (table_of F.field F.value shelf.now right)) work.old work.new }
+    ensures weighs_the_sum { Weighs F.field (table_at F.field F.value work.new to (left.states + right.states) left.letters) (λ w. F.field.plus (weight F.field (table_of F.field F.value shelf.now left) w) (weight F.field (table_of F.field F.value shelf.now right) w)) }
 {
     let made = TableAt {
         base: to,

@@ -16,7 +16,7 @@ pub fn copy_table<F: Field>(work: &[F], from: usize, shelf: &mut [F], table: Tab
     requires table_lies { Lies (length shelf.old) table }
     requires source_within { from + table_size table.states table.letters ≤ length work.now }
     ensures very_elements_copied { Copied table.base (table_size table.states table.letters) work.now from shelf.old shelf.new }
-    ensures table_copied { TableWritten field value table.base (table_at field value work.now from table.states table.letters) shelf.old shelf.new }
+    ensures table_copied { TableWritten F.field F.value table.base (table_at F.field F.value work.now from table.states table.letters) shelf.old shelf.new }
 {
     copy_block(work, from, shelf, table.base, table.size());
 }
@@ -25,8 +25,8 @@ pub fn copy_table<F: Field>(work: &[F], from: usize, shelf: &mut [F], table: Tab
 pub fn scale<F: Field>(shelf: &[F], table: TableAt, factor: F, work: &mut [F], to: usize)
     requires table_lies { Lies (length shelf.now) table }
     requires room { to + table_size table.states table.letters ≤ length work.old }
-    ensures scaled_written { TableWritten field value to (scaled_table field (value factor) (table_of field value shelf.now table)) work.old work.new }
-    ensures weighs_the_multiple { Weighs field (table_at field value work.new to table.states table.letters) (λ w. field.times (value factor) (weight field (table_of field value shelf.now table) w)) }
+    ensures scaled_written { TableWritten F.field F.value to (scaled_table F.field (F.value factor) (table_of F.field F.value shelf.now table)) work.old work.new }
+    ensures weighs_the_multiple { Weighs F.field (table_at F.field F.value work.new to table.states table.letters) (λ w. F.field.times (F.value factor) (weight F.field (table_of F.field F.value shelf.now table) w)) }
 {
     let made = TableAt { base: to, ..table };
     copy_block(shelf, table.base, work, to, table.size());
@@ -44,7 +44,7 @@ fn write_start_after<F: Field>(
     requires table_lies { Lies (length shelf.now) table }
     requires letter_of_table { (1 ≤ letter) × (letter ≤ table.letters) }
     requires to_within { to + table.states ≤ length work.old }
-    ensures row_after_letter { Written field value to table.states (move field table.states (square_at field value shelf.now (matrix_offset table.base table.states letter) table.states) (row_at field value shelf.now table.base)) work.old work.new }
+    ensures row_after_letter { Written F.field F.value to table.states (move F.field table.states (square_at F.field F.value shelf.now (matrix_offset table.base table.states letter) table.states) (row_at F.field F.value shelf.now table.base)) work.old work.new }
 {
     let n = table.states;
     let matrix = table.matrix(letter);
@@ -58,8 +58,8 @@ pub fn after<F: Field>(shelf: &[F], table: TableAt, letter: usize, work: &mut [F
     requires table_lies { Lies (length shelf.now) table }
     requires letter_of_table { (1 ≤ letter) × (letter ≤ table.letters) }
     requires room { to + table_size table.states table.letters ≤ length work.old }
-    ensures after_written { TableWritten field value to (after_table field letter (table_of field value shelf.now table)) work.old work.new }
-    ensures weighs_what_follows_the_letter { Weighs field (table_at field value work.new to table.states table.letters) (λ w. weight field (table_of field value shelf.now table) (letter ∷ w)) }
+    ensures after_written { TableWritten F.field F.value to (after_table F.field letter (table_of F.field F.value shelf.now table)) work.old work.new }
+    ensures weighs_what_follows_the_letter { Weighs F.field (table_at F.field F.value work.new to table.states table.letters) (λ w. weight F.field (table_of F.field F.value shelf.now table) (letter ∷ w)) }
 {
     copy_block(shelf, table.base, work, to, table.size());
     write_start_after(shelf, table, letter, work, to);

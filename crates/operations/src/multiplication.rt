@@ -23,7 +23,7 @@ fn write_products<F: Field>(
     requires left_within { left + n ≤ length shelf.now }
     requires right_within { right + m ≤ length shelf.now }
     requires to_within { to + n * m ≤ length work.old }
-    ensures products_written { Written field value to (n * m) (crossed field m (row_at field value shelf.now left) (row_at field value shelf.now right)) work.old work.new }
+    ensures products_written { Written F.field F.value to (n * m) (crossed F.field m (row_at F.field F.value shelf.now left) (row_at F.field F.value shelf.now right)) work.old work.new }
 {
     for p in 0..n * m {
         work[to + p] = shelf[left + p / m].mul(shelf[right + p % m]);
@@ -46,7 +46,7 @@ fn write_product_row<F: Field>(
     requires letter_of_both { (1 ≤ letter) × ((letter ≤ left.letters) × (letter ≤ right.letters)) }
     requires state_of_product { state < left.states * right.states }
     requires to_within { to + left.states * right.states ≤ length work.old }
-    ensures row_of_product_table { Written field value to (left.states * right.states) ((product_table field (table_of field value shelf.now left) (table_of field value shelf.now right)).step letter state) work.old work.new }
+    ensures row_of_product_table { Written F.field F.value to (left.states * right.states) ((product_table F.field (table_of F.field F.value shelf.now left) (table_of F.field F.value shelf.now right)).step letter state) work.old work.new }
 {
     let m = right.states;
     write_products(
@@ -73,7 +73,7 @@ fn write_product_rows<F: Field>(
     requires same_letters { left.letters ≡ right.letters }
     requires few_states { left.states * right.states ≤ 16 }
     requires room { to + left.letters * (left.states * right.states) * (left.states * right.states) ≤ length work.old }
-    ensures rows_of_product_table { RowsWritten field value to (left.letters * (left.states * right.states)) (left.states * right.states) (λ r. (product_table field (table_of field value shelf.now left) (table_of field value shelf.now right)).step (r / (left.states * right.states) + 1) (r % (left.states * right.states))) work.old work.new }
+    ensures rows_of_product_table { RowsWritten F.field F.value to (left.letters * (left.states * right.states)) (left.states * right.states) (λ r. (product_table F.field (table_of F.field F.value shelf.now left) (table_of F.field F.value shelf.now right)).step (r / (left.states * right.states) + 1) (r % (left.states * right.states))) work.old work.new }
 {
     let n = left.states * right.states;
     for r in 0..left.letters * n {
@@ -88,8 +88,8 @@ pub fn multiply<F: Field>(shelf: &[F], left: TableAt, right: TableAt, work: &mut
     requires same_letters { left.letters ≡ right.letters }
     requires few_states { left.states * right.states ≤ 16 }
     requires room { to + table_size (left.states * right.states) left.letters ≤ length work.old }
-    ensures product_written { TableWritten field value to (product_table field (table_of field value shelf.now left) (table_of field value shelf.now right)) work.old work.new }
-    ensures weighs_the_product { Weighs field (table_at field value work.new to (left.states * right.states) left.letters) (λ w. field.times (weight field (table_of field value shelf.now left) w) (weight field (table_of field value shelf.now right) w)) }
+    ensures product_written { TableWritten F.field F.value to (product_table F.field (table_of F.field F.value shelf.now left) (table_of F.field F.value shelf.now right)) work.old work.new }
+    ensures weighs_the_product { Weighs F.field (table_at F.field F.value work.new to (left.states * right.states) left.letters) (λ w. F.field.times (weight F.field (table_of F.field F.value shelf.now left) w) (weight F.field (table_of F.field F.value shelf.now right) w)) }
 {
     let made = TableAt {
         base: to,

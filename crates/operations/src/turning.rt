@@ -15,7 +15,7 @@ use rows::layout::TableAt;
 fn write_column<F: Field>(shelf: &[F], from: usize, n: usize, work: &mut [F], to: usize)
     requires column_within { (j : ℕ) → j < n → from + j * n < length shelf.now }
     requires to_within { to + n ≤ length work.old }
-    ensures column_written { Written field value to n (λ j. at field value shelf.now (from + j * n)) work.old work.new }
+    ensures column_written { Written F.field F.value to n (λ j. at F.field F.value shelf.now (from + j * n)) work.old work.new }
 {
     for j in 0..n {
         work[to + j] = shelf[from + j * n];
@@ -26,7 +26,7 @@ fn write_column<F: Field>(shelf: &[F], from: usize, n: usize, work: &mut [F], to
 fn write_turned_rows<F: Field>(shelf: &[F], table: TableAt, work: &mut [F], to: usize)
     requires table_lies { Lies (length shelf.now) table }
     requires room { to + table.letters * table.states * table.states ≤ length work.old }
-    ensures rows_of_turned_table { RowsWritten field value to (table.letters * table.states) table.states (λ r. (turned_table field (table_of field value shelf.now table)).step (r / table.states + 1) (r % table.states)) work.old work.new }
+    ensures rows_of_turned_table { RowsWritten F.field F.value to (table.letters * table.states) table.states (λ r. (turned_table F.field (table_of F.field F.value shelf.now table)).step (r / table.states + 1) (r % table.states)) work.old work.new }
 {
     let n = table.states;
     for r in 0..table.letters * n {
@@ -38,8 +38,8 @@ fn write_turned_rows<F: Field>(shelf: &[F], table: TableAt, work: &mut [F], to: 
 pub fn turn<F: Field>(shelf: &[F], table: TableAt, work: &mut [F], to: usize)
     requires table_lies { Lies (length shelf.now) table }
     requires room { to + table_size table.states table.letters ≤ length work.old }
-    ensures turned_written { TableWritten field value to (turned_table field (table_of field value shelf.now table)) work.old work.new }
-    ensures weighs_words_backwards { Weighs field (table_at field value work.new to table.states table.letters) (λ w. weight field (table_of field value shelf.now table) (reverse w)) }
+    ensures turned_written { TableWritten F.field F.value to (turned_table F.field (table_of F.field F.value shelf.now table)) work.old work.new }
+    ensures weighs_words_backwards { Weighs F.field (table_at F.field F.value work.new to table.states table.letters) (λ w. weight F.field (table_of F.field F.value shelf.now table) (reverse w)) }
 {
     let n = table.states;
     let made = TableAt { base: to, ..table };

@@ -119,7 +119,7 @@ impl Reader<'_> {
     /// Goes over a code: an element of it.
     pub fn element<F: Field>(&mut self) -> Result<F, LoadFault>
         requires able { Able self.old }
-        ensures element_or_stopped { MatchResult result (λ x. Went self.old self.new (number (field.code (value x))) (along self.old.position 11)) (λ f. Stopped (ranged 0 (field.q - 1)) self.old.position (left self.old) f) }
+        ensures element_or_stopped { MatchResult result (λ x. Went self.old self.new (number (F.field.code (F.value x))) (along self.old.position 11)) (λ f. Stopped (ranged 0 (F.field.q - 1)) self.old.position (left self.old) f) }
     {
         let first = self.position;
         let code = self.number()?;

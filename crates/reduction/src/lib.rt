@@ -22,11 +22,11 @@ mod result;
 pub fn reduce<F: Field>(work: &mut [F], shelf: &[F], table: TableAt) -> usize
     requires lies { Lies (length shelf.now) table }
     requires room { 8192 ≤ length work.old }
-    ensures reduced_form { Reduced field table.letters (weight field (table_of field value shelf.now table)) (table_at field value work.new 0 result table.letters) }
+    ensures reduced_form { Reduced F.field table.letters (weight F.field (table_of F.field F.value shelf.now table)) (table_at F.field F.value work.new 0 result table.letters) }
     ensures no_more_states { result ≤ table.states }
-    ensures same_weights { SameWeights field (table_of field value shelf.now table) (table_at field value work.new 0 result table.letters) }
-    ensures least { Least field (table_of field value shelf.now table) (table_at field value work.new 0 result table.letters) }
-    ensures no_states_for_zero { AllZero field (table_of field value shelf.now table) → result ≡ 0 }
+    ensures same_weights { SameWeights F.field (table_of F.field F.value shelf.now table) (table_at F.field F.value work.new 0 result table.letters) }
+    ensures least { Least F.field (table_of F.field F.value shelf.now table) (table_at F.field F.value work.new 0 result table.letters) }
+    ensures no_states_for_zero { AllZero F.field (table_of F.field F.value shelf.now table) → result ≡ 0 }
 {
     let columns = spanning_columns(work, shelf, table);
     let found = leading_words(work, shelf, table, columns);

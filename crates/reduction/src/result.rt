@@ -17,7 +17,7 @@ fn write_matrix<F: Field>(work: &mut [F], form: TableAt, letter: usize)
     requires form_in_front { Lies 2048 form }
     requires letter_of_form { (1 ≤ letter) × (letter ≤ form.letters) }
     requires room { 8192 ≤ length work.old }
-    ensures matrix_written { MatrixFrom field value form letter form.states work.old work.new }
+    ensures matrix_written { MatrixFrom F.field F.value form letter form.states work.old work.new }
     ensures all_else_unchanged { Frame (matrix_offset form.base form.states letter) (form.states * form.states) work.old work.new }
 {
     let to = form.matrix(letter);
@@ -35,7 +35,7 @@ fn write_matrix<F: Field>(work: &mut [F], form: TableAt, letter: usize)
 fn write_matrices<F: Field>(work: &mut [F], form: TableAt)
     requires form_in_front { Lies 2048 form }
     requires room { 8192 ≤ length work.old }
-    ensures matrices_written { (a : ℕ) → 1 ≤ a → a ≤ form.letters → MatrixFrom field value form a form.states work.old work.new }
+    ensures matrices_written { (a : ℕ) → 1 ≤ a → a ≤ form.letters → MatrixFrom F.field F.value form a form.states work.old work.new }
     ensures all_else_unchanged { Frame (form.base + form.states) (form.letters * (form.states * form.states)) work.old work.new }
 {
     for a in 1..form.letters + 1 {
@@ -48,7 +48,7 @@ fn write_end<F: Field>(work: &mut [F], shelf: &[F], table: TableAt, form: TableA
     requires lies { Lies (length shelf.now) table }
     requires form_in_front { Lies 2048 form }
     requires room { 8192 ≤ length work.old }
-    ensures end_written { Written field value (end_offset form.base form.states form.letters) form.states (form_of field value (table_of field value shelf.now table) form.states work.old).end work.old work.new }
+    ensures end_written { Written F.field F.value (end_offset form.base form.states form.letters) form.states (form_of F.field F.value (table_of F.field F.value shelf.now table) form.states work.old).end work.old work.new }
 {
     let to = form.end();
     let column = table.end();
@@ -64,7 +64,7 @@ pub fn write_form<F: Field>(work: &mut [F], shelf: &[F], table: TableAt, form: T
     requires form_in_front { Lies 2048 form }
     requires same_letters { form.letters ≡ table.letters }
     requires room { 8192 ≤ length work.old }
-    ensures form_written { TableWritten field value form.base (form_of field value (table_of field value shelf.now table) form.states work.old) work.old work.new }
+    ensures form_written { TableWritten F.field F.value form.base (form_of F.field F.value (table_of F.field F.value shelf.now table) form.states work.old) work.old work.new }
 {
     unit_row(work, form.base, form.states, 0);
     write_matrices(work, form);

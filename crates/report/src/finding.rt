@@ -19,7 +19,7 @@ pub enum Finding {
 pub fn find<F: Field>(shelf: &mut [F], work: &mut [F], first: &[u8], second: &[u8]) -> Finding
     requires shelf_whole { 12544 ≤ length shelf.old }
     requires work_whole { 8192 ≤ length work.old }
-    ensures tells { Tells field first.now second.now (finding_line result) }
+    ensures tells { Tells F.field first.now second.now (finding_line result) }
     ensures fits { FindingFits result }
 {
     let mut directory = Directory::open();

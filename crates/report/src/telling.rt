@@ -81,7 +81,7 @@ pub fn tell<F: Field>(
 ) -> usize
     requires shelf_whole { 12544 ≤ length shelf.old }
     requires work_whole { 8192 ≤ length work.old }
-    ensures reports { Reports field first.now second.now out.old result out.new }
+    ensures reports { Reports F.field first.now second.now out.old result out.new }
     ensures at_most { result ≤ 387 }
 {
     if out.len() < LONGEST {

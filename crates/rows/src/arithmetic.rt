@@ -10,7 +10,7 @@ use field::Field;
 pub fn dot<F: Field>(xs: &[F], from: usize, ys: &[F], column: usize, step: usize, n: usize) -> F
     requires row_within { from + n ≤ length xs.now }
     requires column_within { (i : ℕ) → i < n → column + i * step < length ys.now }
-    ensures is_dot_product { value result ≡ product field n (row_at field value xs.now from) (λ i. at field value ys.now (column + i * step)) }
+    ensures is_dot_product { F.value result ≡ product F.field n (row_at F.field F.value xs.now from) (λ i. at F.field F.value ys.now (column + i * step)) }
 {
     let mut sum = F::zero();
     for i in 0..n {
@@ -32,7 +32,7 @@ pub fn row_times_matrix<F: Field>(
     requires to_within { to + n ≤ length work.old }
     requires apart { Apart from n to n }
     requires matrix_within { matrix + n * n ≤ length shelf.now }
-    ensures row_written { Written field value to n (move field n (square_at field value shelf.now matrix n) (row_at field value work.old from)) work.old work.new }
+    ensures row_written { Written F.field F.value to n (move F.field n (square_at F.field F.value shelf.now matrix n) (row_at F.field F.value work.old from)) work.old work.new }
 {
     for j in 0..n {
         let x = dot(work, from, shelf, matrix + j, n, n);
@@ -53,7 +53,7 @@ pub fn matrix_times_column<F: Field>(
     requires to_within { to + n ≤ length work.old }
     requires apart { Apart from n to n }
     requires matrix_within { matrix + n * n ≤ length shelf.now }
-    ensures column_written { Written field value to n (λ i. product field n (square_at field value shelf.now matrix n i) (row_at field value work.old from)) work.old work.new }
+    ensures column_written { Written F.field F.value to n (λ i. product F.field n (square_at F.field F.value shelf.now matrix n i) (row_at F.field F.value work.old from)) work.old work.new }
 {
     for i in 0..n {
         let x = dot(shelf, matrix + i * n, work, from, 1, n);
@@ -66,7 +66,7 @@ pub fn subtract_multiple<F: Field>(work: &mut [F], to: usize, from: usize, n: us
     requires from_within { from + n ≤ length work.old }
     requires to_within { to + n ≤ length work.old }
     requires apart { Apart from n to n }
-    ensures difference_written { Written field value to n (less_multiple field (row_at field value work.old to) (value factor) (row_at field value work.old from)) work.old work.new }
+    ensures difference_written { Written F.field F.value to n (less_multiple F.field (row_at F.field F.value work.old to) (F.value factor) (row_at F.field F.value work.old from)) work.old work.new }
 {
     for j in 0..n {
         work[to + j] = work[to + j].add(factor.mul(work[from + j]).neg());
@@ -76,7 +76,7 @@ pub fn subtract_multiple<F: Field>(work: &mut [F], to: usize, from: usize, n: us
 /// Multiplies the row at `to` by `factor`.
 pub fn scale_row<F: Field>(work: &mut [F], to: usize, n: usize, factor: F)
     requires to_within { to + n ≤ length work.old }
-    ensures multiple_written { Written field value to n (multiple field (value factor) (row_at field value work.old to)) work.old work.new }
+    ensures multiple_written { Written F.field F.value to n (multiple F.field (F.value factor) (row_at F.field F.value work.old to)) work.old work.new }
 {
     for j in 0..n {
         work[to + j] = factor.mul(work[to + j]);
@@ -86,7 +86,7 @@ pub fn scale_row<F: Field>(work: &mut [F], to: usize, n: usize, factor: F)
 /// The first column of the row of n elements at `from` that is not zero.
 pub fn first_nonzero<F: Field>(work: &[F], from: usize, n: usize) -> Option<usize>
     requires row_within { from + n ≤ length work.now }
-    ensures first_or_all_zero { MatchOption result (Agree n (row_at field value work.now from) (λ _. field.zero)) (λ p. FirstNonzero field n (row_at field value work.now from) p) }
+    ensures first_or_all_zero { MatchOption result (Agree n (row_at F.field F.value work.now from) (λ _. F.field.zero)) (λ p. FirstNonzero F.field n (row_at F.field F.value work.now from) p) }
 {
     let zero = F::zero();
     for j in 0..n {
@@ -100,7 +100,7 @@ pub fn first_nonzero<F: Field>(work: &[F], from: usize, n: usize) -> Option<usiz
 /// Whether the elements at i of `xs` and at j of `ys` have one value.
 pub fn same_at<F: Field>(xs: &[F], i: usize, ys: &[F], j: usize) -> bool
     requires within { (i < length xs.now) × (j < length ys.now) }
-    ensures decides_equality { Decides result (at field value xs.now i ≡ at field value ys.now j) }
+    ensures decides_equality { Decides result (at F.field F.value xs.now i ≡ at F.field F.value ys.now j) }
 {
     xs[i].same(ys[j])
 }

@@ -30,7 +30,7 @@ pub fn move_block<F: Field>(work: &mut [F], from: usize, to: usize, n: usize)
 /// Fills n elements with zero.
 pub fn clear_block<F: Field>(work: &mut [F], to: usize, n: usize)
     requires to_within { to + n ≤ length work.old }
-    ensures zeros_written { Written field value to n (λ _. field.zero) work.old work.new }
+    ensures zeros_written { Written F.field F.value to n (λ _. F.field.zero) work.old work.new }
 {
     let zero = F::zero();
     for j in 0..n {

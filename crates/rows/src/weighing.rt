@@ -14,7 +14,7 @@ use field::Field;
 pub fn weigh<F: Field>(shelf: &[F], table: TableAt, word: &[u8], work: &mut [F]) -> Result<F, usize>
     requires table_lies { Lies (length shelf.now) table }
     requires two_rows_fit { table.states + table.states ≤ length work.old }
-    ensures weight_or_first_letter_outside { Weighed field value (table_of field value shelf.now table) word.now result }
+    ensures weight_or_first_letter_outside { Weighed F.field F.value (table_of F.field F.value shelf.now table) word.now result }
     ensures two_rows_used { Frame 0 (table.states + table.states) work.old work.new }
 {
     let n = table.states;

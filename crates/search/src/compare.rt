@@ -33,10 +33,10 @@ pub fn compare<F: Field>(work: &mut [F], shelf: &[F], left: TableAt, right: Tabl
     requires right_lies { Lies (size shelf.now) right }
     requires same_letters { right.letters ≡ left.letters }
     requires room { 8192 ≤ size work.old }
-    ensures answer { Compared field (table_of field value shelf.now left) (table_of field value shelf.now right) result }
+    ensures answer { Compared F.field (table_of F.field F.value shelf.now left) (table_of F.field F.value shelf.now right) result }
     ensures bounded { Bounded result }
-    ensures alike_only_if_all_weigh_alike { SaysAlike result → AllWordsAlike field (table_of field value shelf.now left) (table_of field value shelf.now right) }
-    ensures alike_if_all_weigh_alike { AllWordsAlike field (table_of field value shelf.now left) (table_of field value shelf.now right) → SaysAlike result }
+    ensures alike_only_if_all_weigh_alike { SaysAlike result → AllWordsAlike F.field (table_of F.field F.value shelf.now left) (table_of F.field F.value shelf.now right) }
+    ensures alike_if_all_weigh_alike { AllWordsAlike F.field (table_of F.field F.value shelf.now left) (table_of F.field F.value shelf.now right) → SaysAlike result }
 {
     let both = Pair { left, right };
     let mut walk = Walk::new();

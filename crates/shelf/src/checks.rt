@@ -67,7 +67,7 @@ impl Directory {
         place: usize,
         to: usize,
     ) -> Result<TableAt, Refusal>
-        ensures checked { (c : Call) (out : List ℕ) (v : Verdict) → Reads c (place ∷ []) (to ∷ []) 8192 → Checked field (state self.now.entries shelf.now (length work.now) out v) c 4 result }
+        ensures checked { (c : Call) (out : List ℕ) (v : Verdict) → Reads c (place ∷ []) (to ∷ []) 8192 → Checked F.field (state self.now.entries shelf.now (length work.now) out v) c 4 result }
         ensures found { IfOk result (λ t. Found (map entry_of self.now.entries) (length shelf.now) place t × Room (length shelf.now) (length work.now) to) }
     {
         within(place)?;
@@ -85,7 +85,7 @@ impl Directory {
         second: usize,
         to: usize,
     ) -> Result<TwoTables, Refusal>
-        ensures checked { (c : Call) (out : List ℕ) (v : Verdict) → Pairs c first second to → Checked field (state self.now.entries shelf.now (length work.now) out v) c 5 result }
+        ensures checked { (c : Call) (out : List ℕ) (v : Verdict) → Pairs c first second to → Checked F.field (state self.now.entries shelf.now (length work.now) out v) c 5 result }
         ensures found { IfOk result (λ t. FoundBoth (map entry_of self.now.entries) (length shelf.now) (length work.now) first second to t) }
     {
         within(first)?;

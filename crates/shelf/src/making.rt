@@ -35,7 +35,7 @@ impl Directory {
     )
         requires room { Room (length shelf.old) (length work.now) to }
         requires limits { Limits states letters }
-        ensures kept { (l : Lent) (R : Table Value) → SameTable (table_at field value work.now 0 states letters) R → Makes field value (lending (shelf_of self.old.entries shelf.old) l) to R (lending (shelf_of self.new.entries shelf.new) l) }
+        ensures kept { (l : Lent) (R : Table F.Value) → SameTable (table_at F.field F.value work.now 0 states letters) R → Makes F.field F.value (lending (shelf_of self.old.entries shelf.old) l) to R (lending (shelf_of self.new.entries shelf.new) l) }
     {
         let base = (to - 1) * 1568;
         adjusting::copy_table(
@@ -59,7 +59,7 @@ impl Directory {
         place: usize,
         to: usize,
     ) -> Result<(), Refusal>
-        ensures does { (out : List ℕ) (v : Verdict) → Does field value (state self.old.entries shelf.old (length work.old) out v) (turn place to) (outcome_by (λ _. Done) result) (state self.new.entries shelf.new (length work.new) out v) }
+        ensures does { (out : List ℕ) (v : Verdict) → Does F.field F.value (state self.old.entries shelf.old (length work.old) out v) (turn place to) (outcome_by (λ _. Done) result) (state self.new.entries shelf.new (length work.new) out v) }
     {
         let table = self.one_table(shelf, work, place, to)?;
         turning::turn(shelf, table, work, 0);
@@ -75,7 +75,7 @@ impl Directory {
         place: usize,
         to: usize,
     ) -> Result<(), Refusal>
-        ensures does { (out : List ℕ) (v : Verdict) → Does field value (state self.old.entries shelf.old (length work.old) out v) (reduce place to) (outcome_by (λ _. Done) result) (state self.new.entries shelf.new (length work.new) out v) }
+        ensures does { (out : List ℕ) (v : Verdict) → Does F.field F.value (state self.old.entries shelf.old (length work.old) out v) (reduce place to) (outcome_by (λ _. Done) result) (state self.new.entries shelf.new (length work.new) out v) }
     {
         let table = self.one_table(shelf, work, place, to)?;
         let states = reduction::reduce(work, shelf, table);
@@ -92,7 +92,7 @@ impl Directory {
         code: u64,
         to: usize,
     ) -> Result<(), Refusal>
-        ensures does { (out : List ℕ) (v : Verdict) → Does field value (state self.old.entries shelf.old (length work.old) out v) (scale place code to) (outcome_by (λ _. Done) result) (state self.new.entries shelf.new (length work.new) out v) }
+        ensures does { (out : List ℕ) (v : Verdict) → Does F.field F.value (state self.old.entries shelf.old (length work.old) out v) (scale place code to) (outcome_by (λ _. Done) result) (state self.new.entries shelf.new (length work.new) out v) }
     {
         let table = self.one_table(shelf, work, place, to)?;
         let Some(factor) = F::from_code(code) else {
@@ -112,7 +112,7 @@ impl Directory {
         letter: u8,
         to: usize,
     ) -> Result<(), Refusal>
-        ensures does { (out : List ℕ) (v : Verdict) → Does field value (state self.old.entries shelf.old (length work.old) out v) (after place letter to) (outcome_by (λ _. Done) result) (state self.new.entries shelf.new (length work.new) out v) }
+        ensures does { (out : List ℕ) (v : Verdict) → Does F.field F.value (state self.old.entries shelf.old (length work.old) out v) (after place letter to) (outcome_by (λ _. Done) result) (state self.new.entries shelf.new (length work.new) out v) }
     {
         let table = self.one_table(shelf, work, place, to)?;
         let a = letter as usize;
@@ -132,7 +132,7 @@ impl Directory {
         text: &[u8],
         to: usize,
     ) -> Result<(), Refusal>
-        ensures does { (out : List ℕ) (v : Verdict) → Does field value (state self.old.entries shelf.old (length work.old) out v) (load text.now to) (outcome_by (λ _. Done) result) (state self.new.entries shelf.new (length work.new) out v) }
+        ensures does { (out : List ℕ) (v : Verdict) → Does F.field F.value (state self.old.entries shelf.old (length work.old) out v) (load text.now to) (outcome_by (λ _. Done) result) (state self.new.entries shelf.new (length work.new) out v) }
     {
         within(to)?;
         room(shelf.len(), work.len())?;
@@ -154,7 +154,7 @@ impl Directory {
         second: usize,
         to: usize,
     ) -> Result<(), Refusal>
-        ensures does { (out : List ℕ) (v : Verdict) → Does field value (state self.old.entries shelf.old (length work.old) out v) (sum first second to) (outcome_by (λ _. Done) result) (state self.new.entries shelf.new (length work.new) out v) }
+        ensures does { (out : List ℕ) (v : Verdict) → Does F.field F.value (state self.old.entries shelf.old (length work.old) out v) (sum first second to) (outcome_by (λ _. Done) result) (state self.new.entries shelf.new (length work.new) out v) }
     {
         let both = self.two_tables(shelf, work, first, second, to)?;
         let states = both.left.states + both.right.states;
@@ -175,7 +175,7 @@ impl Directory {
         second: usize,
         to: usize,
     ) -> Result<(), Refusal>
-        ensures does { (out : List ℕ) (v : Verdict) → Does field value (state self.old.entries shelf.old (length work.old) out v) (multiply first second to) (outcome_by (λ _. Done) result) (state self.new.entries shelf.new (length work.new) out v) }
+        ensures does { (out : List ℕ) (v : Verdict) → Does F.field F.value (state self.old.entries shelf.old (length work.old) out v) (multiply first second to) (outcome_by (λ _. Done) result) (state self.new.entries shelf.new (length work.new) out v) }
     {
         let both = self.two_tables(shelf, work, first, second, to)?;
         let states = both.left.states * both.right.states;

@@ -66,7 +66,7 @@ impl Directory {
         verdict: &mut Verdict,
         call: &Call<'_>,
     ) -> Outcome
-        ensures does { Does field value (state self.old.entries shelf.old (length work.old) output.old verdict.old) (call_of call.now) result (state self.new.entries shelf.new (length work.new) output.new verdict.new) }
+        ensures does { Does F.field F.value (state self.old.entries shelf.old (length work.old) output.old verdict.old) (call_of call.now) result (state self.new.entries shelf.new (length work.new) output.new verdict.new) }
     {
         match *call {
             Call::Load { text, to } => made(self.load(shelf, work, text, to)),
@@ -97,7 +97,7 @@ impl Directory {
         verdict: &mut Verdict,
         request: &Request<'_>,
     ) -> Outcome
-        ensures taken_up { TakenUp field value (state self.old.entries shelf.old (length work.old) output.old verdict.old) request.now result (state self.new.entries shelf.new (length work.new) output.new verdict.new) }
+        ensures taken_up { TakenUp F.field F.value (state self.old.entries shelf.old (length work.old) output.old verdict.old) request.now result (state self.new.entries shelf.new (length work.new) output.new verdict.new) }
     {
         let elements = request.work.min(work.len());
         let bytes = request.output.min(output.len());
@@ -122,10 +122,10 @@ impl Directory {
         outcomes: &mut [Outcome],
     ) -> usize
         ensures as_many_as_fit { result ≡ min (length requests.now) (length outcomes.old) }
-        ensures runs { Run field value (state self.old.entries shelf.old (length work.old) output.old verdict.old) (take result requests.now) (take result outcomes.new) (state self.new.entries shelf.new (length work.new) output.new verdict.new) }
+        ensures runs { Run F.field F.value (state self.old.entries shelf.old (length work.old) output.old verdict.old) (take result requests.now) (take result outcomes.new) (state self.new.entries shelf.new (length work.new) output.new verdict.new) }
         ensures later_outcomes_kept { drop result outcomes.new ≡ drop result outcomes.old }
-        ensures follows_from_open { RunFollows field value (λ n m. n + m) (state self.old.entries shelf.old (length work.old) output.old verdict.old) (take result requests.now) (take result outcomes.new) (state self.new.entries shelf.new (length work.new) output.new verdict.new) }
-        ensures law { UsesFollowTheBook field value (λ n m. n + m) (λ r t. r ≤ t) }
+        ensures follows_from_open { RunFollows F.field F.value (λ n m. n + m) (state self.old.entries shelf.old (length work.old) output.old verdict.old) (take result requests.now) (take result outcomes.new) (state self.new.entries shelf.new (length work.new) output.new verdict.new) }
+        ensures law { UsesFollowTheBook F.field F.value (λ n m. n + m) (λ r t. r ≤ t) }
     {
         // Holds the law that the contract states; nothing is done.
         uses_follow_the_book(F::zero());

@@ -62,7 +62,7 @@ impl Directory {
         place: usize,
         word: &[u8],
     ) -> Result<u64, Refusal>
-        ensures does { (out : List ℕ) (v : Verdict) → Does field value (state self.now.entries shelf.now (length work.old) out v) (weigh place word.now) (outcome_by Code result) (state self.now.entries shelf.now (length work.new) out v) }
+        ensures does { (out : List ℕ) (v : Verdict) → Does F.field F.value (state self.now.entries shelf.now (length work.old) out v) (weigh place word.now) (outcome_by Code result) (state self.now.entries shelf.now (length work.new) out v) }
     {
         let table = self.one_table(shelf, work, place, place)?;
         match weighing::weigh(shelf, table, word, work) {
@@ -78,7 +78,7 @@ impl Directory {
         place: usize,
         output: &mut [u8],
     ) -> Result<usize, Refusal>
-        ensures does { (work : ℕ) (v : Verdict) → Does field value (state self.now.entries shelf.now work output.old v) (write place) (outcome_by Count result) (state self.now.entries shelf.now work output.new v) }
+        ensures does { (work : ℕ) (v : Verdict) → Does F.field F.value (state self.now.entries shelf.now work output.old v) (write place) (outcome_by Count result) (state self.now.entries shelf.now work output.new v) }
     {
         within(place)?;
         if shelf.len() < SHELF {
@@ -104,7 +104,7 @@ impl Directory {
         second: usize,
         verdict: &mut Verdict,
     ) -> Result<(), Refusal>
-        ensures does { (out : List ℕ) → Does field value (state self.now.entries shelf.now (length work.old) out verdict.old) (compare first second) (outcome_by (λ _. Told verdict.new) result) (state self.now.entries shelf.now (length work.new) out verdict.new) }
+        ensures does { (out : List ℕ) → Does F.field F.value (state self.now.entries shelf.now (length work.old) out verdict.old) (compare first second) (outcome_by (λ _. Told verdict.new) result) (state self.now.entries shelf.now (length work.new) out verdict.new) }
     {
         let both = self.two_tables(shelf, work, first, second, second)?;
         let found = search::compare::compare(work, shelf, both.left, both.right);

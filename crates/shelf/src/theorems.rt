@@ -6,7 +6,7 @@ use field::Field;
 /// What clear does with the entries, which is all that it is handed, is what the call clear does on a shelf over any
 /// field.
 pub fn clear_does_the_call<F: Field>(x: F) -> F
-    ensures clears_as_called { ClearsAsCalled field value }
+    ensures clears_as_called { ClearsAsCalled F.field F.value }
 {
     x
 }

@@ -25,8 +25,8 @@ fn try_column<F: Field>(
     requires room { 8192 ≤ length work.old }
     requires letter_of_table { (1 ≤ letter) × (letter ≤ table.letters) }
     requires word_found { i < found.old.count }
-    requires due { ColumnDue field value (table_of field value shelf.now table) i letter found.old work.old }
-    ensures next_due { ColumnDue field value (table_of field value shelf.now table) i (letter + 1) found.new work.new }
+    requires due { ColumnDue F.field F.value (table_of F.field F.value shelf.now table) i letter found.old work.old }
+    ensures next_due { ColumnDue F.field F.value (table_of F.field F.value shelf.now table) i (letter + 1) found.new work.new }
     ensures word_found { i < found.new.count }
     ensures length_kept { length work.new ≡ length work.old }
 {
@@ -51,8 +51,8 @@ fn try_columns<F: Field>(work: &mut [F], found: &mut Found, i: usize, shelf: &[F
     requires lies { Lies (length shelf.now) table }
     requires room { 8192 ≤ length work.old }
     requires word_found { i < found.old.count }
-    requires due { ColumnDue field value (table_of field value shelf.now table) i 1 found.old work.old }
-    ensures all_tried { ColumnDue field value (table_of field value shelf.now table) i (table.letters + 1) found.new work.new }
+    requires due { ColumnDue F.field F.value (table_of F.field F.value shelf.now table) i 1 found.old work.old }
+    ensures all_tried { ColumnDue F.field F.value (table_of F.field F.value shelf.now table) i (table.letters + 1) found.new work.new }
     ensures word_found { i < found.new.count }
     ensures length_kept { length work.new ≡ length work.old }
 {
@@ -65,8 +65,8 @@ fn try_columns<F: Field>(work: &mut [F], found: &mut Found, i: usize, shelf: &[F
 fn close_columns<F: Field>(work: &mut [F], found: &mut Found, shelf: &[F], table: TableAt)
     requires lies { Lies (length shelf.now) table }
     requires room { 8192 ≤ length work.old }
-    requires due { ColumnDue field value (table_of field value shelf.now table) 0 1 found.old work.old }
-    ensures spanned { Spanned field value (table_of field value shelf.now table) found.new.count work.new }
+    requires due { ColumnDue F.field F.value (table_of F.field F.value shelf.now table) 0 1 found.old work.old }
+    ensures spanned { Spanned F.field F.value (table_of F.field F.value shelf.now table) found.new.count work.new }
     ensures few { found.new.count ≤ table.states }
     ensures length_kept { length work.new ≡ length work.old }
 {
@@ -82,7 +82,7 @@ fn try_end<F: Field>(work: &mut [F], found: &mut Found, shelf: &[F], table: Tabl
     requires lies { Lies (length shelf.now) table }
     requires room { 8192 ≤ length work.old }
     requires none_found { found.old.count ≡ 0 }
-    ensures due { ColumnDue field value (table_of field value shelf.now table) 0 1 found.new work.new }
+    ensures due { ColumnDue F.field F.value (table_of F.field F.value shelf.now table) 0 1 found.new work.new }
     ensures length_kept { length work.new ≡ length work.old }
 {
     copy_block(shelf, table.end(), work, COLUMNS, table.states);
@@ -96,7 +96,7 @@ fn try_end<F: Field>(work: &mut [F], found: &mut Found, shelf: &[F], table: Tabl
 pub fn spanning_columns<F: Field>(work: &mut [F], shelf: &[F], table: TableAt) -> usize
     requires lies { Lies (length shelf.now) table }
     requires room { 8192 ≤ length work.old }
-    ensures spanned { Spanned field value (table_of field value shelf.now table) result work.new }
+    ensures spanned { Spanned F.field F.value (table_of F.field F.value shelf.now table) result work.new }
     ensures few { result ≤ table.states }
     ensures length_kept { length work.new ≡ length work.old }
 {

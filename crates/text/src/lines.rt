@@ -18,7 +18,7 @@ fn codes<F: Field>(reader: &mut Reader<'_>, elements: &mut [F]) -> Result<(), Lo
     requires able { Able reader.old }
     requires narrow { reader.old.position.column ≤ 100 }
     requires few { length elements.old ≤ 16 }
-    ensures row_or_stops { MatchResult result (λ _. Went reader.old reader.new (numbers (codes_of field value elements.new)) (along reader.old.position (11 * length elements.old))) (λ f. Stops (code_items field (length elements.old)) reader.old.position (left reader.old) f) }
+    ensures row_or_stops { MatchResult result (λ _. Went reader.old reader.new (numbers (codes_of F.field F.value elements.new)) (along reader.old.position (11 * length elements.old))) (λ f. Stops (code_items F.field (length elements.old)) reader.old.position (left reader.old) f) }
 {
     for x in elements.iter_mut() {
         *x = reader.element()?;
@@ -37,7 +37,7 @@ pub fn codes_line<F: Field>(
     requires able { Able reader.old }
     requires starts { reader.old.position.column ≡ 1 }
     requires few { length elements.old ≤ 16 }
-    ensures line_or_stops { MatchResult result (λ then. Went reader.old reader.new (line_of (due_letter due) (codes_of field value elements.new)) (after close reader.old.position) × (then ≡ next rows due)) (λ f. Stops (line_items (due_letter due) (code_items field (length elements.old))) reader.old.position (left reader.old) f) }
+    ensures line_or_stops { MatchResult result (λ then. Went reader.old reader.new (line_of (due_letter due) (codes_of F.field F.value elements.new)) (after close reader.old.position) × (then ≡ next rows due)) (λ f. Stops (line_items (due_letter due) (code_items F.field (length elements.old))) reader.old.position (left reader.old) f) }
 {
     let then = reader.head(due, rows)?;
     codes(reader, elements)?;
@@ -57,7 +57,7 @@ fn matrix_line<F: Field>(
     requires able { Able reader.old }
     requires starts { reader.old.position.column ≡ 1 }
     requires few { length elements.old ≤ 16 }
-    ensures line_or_stops { MatchResult result (λ then. Went reader.old reader.new (line_of (due_letter due) (letter ∷ row ∷ codes_of field value elements.new)) (after close reader.old.position) × (then ≡ next rows due)) (λ f. Stops (line_items (due_letter due) (ranged letter letter ∷ ranged row row ∷ code_items field (length elements.old))) reader.old.position (left reader.old) f) }
+    ensures line_or_stops { MatchResult result (λ then. Went reader.old reader.new (line_of (due_letter due) (letter ∷ row ∷ codes_of F.field F.value elements.new)) (after close reader.old.position) × (then ≡ next rows due)) (λ f. Stops (line_items (due_letter due) (ranged letter letter ∷ ranged row row ∷ code_items F.field (length elements.old))) reader.old.position (left reader.old) f) }
 {
     let then = reader.head(due, rows)?;
     reader.within(letter, letter)?;
@@ -71,7 +71,7 @@ fn matrix_line<F: Field>(
 pub fn table_line<F: Field>(reader: &mut Reader<'_>) -> Result<(Shape, Due), LoadFault>
     requires able { Able reader.old }
     requires starts { reader.old.position.column ≡ 1 }
-    ensures shape_or_stops { MatchResult result (λ got. Limits got.0.states got.0.letters × Went reader.old reader.new (line_of (letter_of kind.Table) (got.0.states ∷ got.0.letters ∷ field.q ∷ [])) (after close reader.old.position) × (got.1 ≡ Due.Start)) (λ f. Stops (table_items field) reader.old.position (left reader.old) f) }
+    ensures shape_or_stops { MatchResult result (λ got. Limits got.0.states got.0.letters × Went reader.old reader.new (line_of (letter_of kind.Table) (got.0.states ∷ got.0.letters ∷ F.field.q ∷ [])) (after close reader.old.position) × (got.1 ≡ Due.Start)) (λ f. Stops (table_items F.field) reader.old.position (left reader.old) f) }
 {
     let then = reader.head(Due::Table, 0)?;
     let states = reader.within(0, 16)?;
@@ -103,7 +103,7 @@ pub fn matrices<F: Field>(
     requires few { count < 1000 }
     requires some { 0 < count → 0 < n }
     requires room { length elements.old ≡ count * n }
-    ensures lines_or_stops { MatchResult result (λ then. Went reader.old reader.new (row_lines n (codes_of field value elements.new) count) (record { line = reader.old.position.line + count; column = 1 }) × (then ≡ Due.End)) (λ f. Stops (row_items field n count) reader.old.position (left reader.old) f) }
+    ensures lines_or_stops { MatchResult result (λ then. Went reader.old reader.new (row_lines n (codes_of F.field F.value elements.new) count) (record { line = reader.old.position.line + count; column = 1 }) × (then ≡ Due.End)) (λ f. Stops (row_items F.field n count) reader.old.position (left reader.old) f) }
 {
     let mut then = due;
     for j in 0..count {

@@ -28,7 +28,7 @@ fn body<F: Field>(
     requires start_due { due ≡ Due.Start }
     requires limits { Limits shape.states shape.letters }
     requires room { length elements.old ≡ table_size shape.states shape.letters }
-    ensures lines_or_stops { MatchResult result (λ _. Went reader.old reader.new (body_of field (table_at field value elements.new 0 shape.states shape.letters)) (record { line = reader.old.position.line + (3 + shape.letters * shape.states); column = 1 })) (λ f. Stops (body_items field shape.states shape.letters) reader.old.position (left reader.old) f) }
+    ensures lines_or_stops { MatchResult result (λ _. Went reader.old reader.new (body_of F.field (table_at F.field F.value elements.new 0 shape.states shape.letters)) (record { line = reader.old.position.line + (3 + shape.letters * shape.states); column = 1 })) (λ f. Stops (body_items F.field shape.states shape.letters) reader.old.position (left reader.old) f) }
 {
     let n = shape.states;
     let count = shape.letters * n;
@@ -44,8 +44,8 @@ fn body<F: Field>(
 /// Reads the table of a text into the front of `work`: its size, or why the text is refused.
 pub fn read_table<F: Field>(text: &[u8], work: &mut [F]) -> Result<Shape, LoadFault>
     requires room { 1568 ≤ length work.old }
-    ensures accepted_or_refused { MatchResult result (λ shape. Accepts field value text.now shape work.new) (λ f. Refuses field text.now f) }
-    ensures refused_has_no_table { is_ok result ≡ false → (T : Table Value) → Sized T → text.now ≢ text_of field T }
+    ensures accepted_or_refused { MatchResult result (λ shape. Accepts F.field F.value text.now shape work.new) (λ f. Refuses F.field text.now f) }
+    ensures refused_has_no_table { is_ok result ≡ false → (T : Table F.Value) → Sized T → text.now ≢ text_of F.field T }
     ensures table_alone_written { MatchResult result (λ shape. Frame 0 (table_size shape.states shape.letters) work.old work.new) (λ _. Frame 0 1568 work.old work.new) }
 {
     let mut reader = Reader::new(text);

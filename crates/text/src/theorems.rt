@@ -5,35 +5,35 @@ use field::Field;
 
 /// How many bytes a table's text has.
 pub fn text_lengths<F: Field>(x: F) -> F
-    ensures length_is { LengthIs field }
+    ensures length_is { LengthIs F.field }
 {
     x
 }
 
 /// Two tables with one text are the same table.
 pub fn one_text_one_table<F: Field>(x: F) -> F
-    ensures told_apart { ToldApart field }
+    ensures told_apart { ToldApart F.field }
 {
     x
 }
 
 /// A text has one verdict, and a refused one has one fault.
 pub fn one_verdict<F: Field>(x: F) -> F
-    ensures decided { Decided field }
+    ensures decided { Decided F.field }
 {
     x
 }
 
 /// Reading what was written gives the table back.
 pub fn read_back<F: Field>(x: F) -> F
-    ensures read_back { ReadBack field value }
+    ensures read_back { ReadBack F.field F.value }
 {
     x
 }
 
 /// Writing what was read gives the text back.
 pub fn written_back<F: Field>(x: F) -> F
-    ensures written_back { WrittenBack field value }
+    ensures written_back { WrittenBack F.field F.value }
 {
     x
 }

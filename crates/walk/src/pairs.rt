@@ -28,7 +28,7 @@ pub struct Weights {
 pub fn start_row<F: Field>(work: &mut [F], to: usize, shelf: &[F], both: Pair)
     requires tables_lie { PairLies (length shelf.now) both }
     requires to_within { to + (both.left.states + both.right.states) ≤ length work.old }
-    ensures pair_row_of_empty_word { Agree (both.left.states + both.right.states) (row_at field value work.new to) (pair field (left_table field value shelf.now both) (right_table field value shelf.now both) []) }
+    ensures pair_row_of_empty_word { Agree (both.left.states + both.right.states) (row_at F.field F.value work.new to) (pair F.field (left_table F.field F.value shelf.now both) (right_table F.field F.value shelf.now both) []) }
     ensures all_else_unchanged { Frame to (both.left.states + both.right.states) work.old work.new }
 {
     copy_block(shelf, both.left.base, work, to, both.left.states);
@@ -55,8 +55,8 @@ pub fn step_row<F: Field>(
     requires to_within { to + (both.left.states + both.right.states) ≤ length work.old }
     requires apart { Apart from (both.left.states + both.right.states) to (both.left.states + both.right.states) }
     requires letter_of_tables { (1 ≤ letter) × (letter ≤ both.left.letters) }
-    ensures pair_row_of_longer_word { (u : Word) → Agree (both.left.states + both.right.states) (row_at field value work.old from) (pair field (left_table field value shelf.now both) (right_table field value shelf.now both) u)
-        → Agree (both.left.states + both.right.states) (row_at field value work.new to) (pair field (left_table field value shelf.now both) (right_table field value shelf.now both) (u ++ letter ∷ [])) }
+    ensures pair_row_of_longer_word { (u : Word) → Agree (both.left.states + both.right.states) (row_at F.field F.value work.old from) (pair F.field (left_table F.field F.value shelf.now both) (right_table F.field F.value shelf.now both) u)
+        → Agree (both.left.states + both.right.states) (row_at F.field F.value work.new to) (pair F.field (left_table F.field F.value shelf.now both) (right_table F.field F.value shelf.now both) (u ++ letter ∷ [])) }
     ensures all_else_unchanged { Frame to (both.left.states + both.right.states) work.old work.new }
 {
     let n = both.left.states;
@@ -75,9 +75,9 @@ pub fn step_row<F: Field>(
 pub fn difference<F: Field>(work: &[F], start: usize, shelf: &[F], both: Pair) -> Option<Weights>
     requires tables_lie { PairLies (length shelf.now) both }
     requires row_within { start + (both.left.states + both.right.states) ≤ length work.now }
-    ensures compares_weights { (u : Word) → Agree (both.left.states + both.right.states) (row_at field value work.now start) (pair field (left_table field value shelf.now both) (right_table field value shelf.now both) u)
-        → MatchOption result (weight field (left_table field value shelf.now both) u ≡ weight field (right_table field value shelf.now both) u)
-        (λ w. Unlike field (left_table field value shelf.now both) (right_table field value shelf.now both) u w.left w.right) }
+    ensures compares_weights { (u : Word) → Agree (both.left.states + both.right.states) (row_at F.field F.value work.now start) (pair F.field (left_table F.field F.value shelf.now both) (right_table F.field F.value shelf.now both) u)
+        → MatchOption result (weight F.field (left_table F.field F.value shelf.now both) u ≡ weight F.field (right_table F.field F.value shelf.now both) u)
+        (λ w. Unlike F.field (left_table F.field F.value shelf.now both) (right_table F.field F.value shelf.now both) u w.left w.right) }
 {
     let left = dot(work, start, shelf, both.left.end(), 1, both.left.states);
     let right = dot(

@@ -67,10 +67,10 @@ fn try_letter<F: Field>(
     requires tables_lie { PairLies (length shelf.now) both }
     requires room { 8192 ≤ length work.old }
     requires letter_of_tables { (1 ≤ letter) × (letter ≤ both.left.letters) }
-    requires ready { Ready field value (left_table field value shelf.now both) (right_table field value shelf.now both) i letter walk.old work.old }
+    requires ready { Ready F.field F.value (left_table F.field F.value shelf.now both) (right_table F.field F.value shelf.now both) i letter walk.old work.old }
     ensures next_letter_or_found { MatchOption result
-        (Ready field value (left_table field value shelf.now both) (right_table field value shelf.now both) i (letter + 1) walk.new work.new)
-        (λ f. FoundDifference field (left_table field value shelf.now both) (right_table field value shelf.now both) walk.new f) }
+        (Ready F.field F.value (left_table F.field F.value shelf.now both) (right_table F.field F.value shelf.now both) i (letter + 1) walk.new work.new)
+        (λ f. FoundDifference F.field (left_table F.field F.value shelf.now both) (right_table F.field F.value shelf.now both) walk.new f) }
 {
     let d = both.left.states + both.right.states;
     let to = walk.count * d;
@@ -98,10 +98,10 @@ fn try_letters<F: Field>(
 ) -> Option<Found>
     requires tables_lie { PairLies (length shelf.now) both }
     requires room { 8192 ≤ length work.old }
-    requires ready { Ready field value (left_table field value shelf.now both) (right_table field value shelf.now both) i 1 walk.old work.old }
+    requires ready { Ready F.field F.value (left_table F.field F.value shelf.now both) (right_table F.field F.value shelf.now both) i 1 walk.old work.old }
     ensures past_letters_or_found { MatchOption result
-        (Ready field value (left_table field value shelf.now both) (right_table field value shelf.now both) i (both.left.letters + 1) walk.new work.new)
-        (λ f. FoundDifference field (left_table field value shelf.now both) (right_table field value shelf.now both) walk.new f) }
+        (Ready F.field F.value (left_table F.field F.value shelf.now both) (right_table F.field F.value shelf.now both) i (both.left.letters + 1) walk.new work.new)
+        (λ f. FoundDifference F.field (left_table F.field F.value shelf.now both) (right_table F.field F.value shelf.now both) walk.new f) }
 {
     for a in 1..both.left.letters + 1 {
         if let Some(f) = try_letter(work, walk, i, a, shelf, both) {
@@ -122,8 +122,8 @@ pub fn try_empty<F: Field>(
     requires room { 8192 ≤ length work.old }
     requires no_word { walk.old.count ≡ 0 }
     ensures begun_or_found { MatchOption result
-        (Passed field value (left_table field value shelf.now both) (right_table field value shelf.now both) 0 walk.new work.new)
-        (λ w. FirstDifference field (left_table field value shelf.now both) (right_table field value shelf.now both) [] 1 w.left w.right) }
+        (Passed F.field F.value (left_table F.field F.value shelf.now both) (right_table F.field F.value shelf.now both) 0 walk.new work.new)
+        (λ w. FirstDifference F.field (left_table F.field F.value shelf.now both) (right_table F.field F.value shelf.now both) [] 1 w.left w.right) }
 {
     let d = both.left.states + both.right.states;
     start_row(work, 0, shelf, both);
@@ -140,10 +140,10 @@ pub fn try_empty<F: Field>(
 pub fn try_rest<F: Field>(work: &mut [F], walk: &mut Walk, shelf: &[F], both: Pair) -> Option<Found>
     requires tables_lie { PairLies (length shelf.now) both }
     requires room { 8192 ≤ length work.old }
-    requires begun { Passed field value (left_table field value shelf.now both) (right_table field value shelf.now both) 0 walk.old work.old }
+    requires begun { Passed F.field F.value (left_table F.field F.value shelf.now both) (right_table F.field F.value shelf.now both) 0 walk.old work.old }
     ensures through_or_found { MatchOption result
-        (Passed field value (left_table field value shelf.now both) (right_table field value shelf.now both) walk.new.count walk.new work.new)
-        (λ f. FoundDifference field (left_table field value shelf.now both) (right_table field value shelf.now both) walk.new f) }
+        (Passed F.field F.value (left_table F.field F.value shelf.now both) (right_table F.field F.value shelf.now both) walk.new.count walk.new work.new)
+        (λ f. FoundDifference F.field (left_table F.field F.value shelf.now both) (right_table F.field F.value shelf.now both) walk.new f) }
 {
     let mut i = 0;
     while i < walk.count {

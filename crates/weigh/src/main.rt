@@ -48,7 +48,7 @@ fn weight_code<F: Field>(
 ) -> Result<u64, usize>
     requires table_lies { Lies (length memory.now) table }
     requires two_rows_fit { table.states + table.states ≤ length rows.old }
-    ensures code_or_first_letter_outside { MatchResult result (λ c. c ≡ field.code (weight field (table_of field value memory.now table) word.now)) (λ p. FirstOutside table.letters word.now p) }
+    ensures code_or_first_letter_outside { MatchResult result (λ c. c ≡ F.field.code (weight F.field (table_of F.field F.value memory.now table) word.now)) (λ p. FirstOutside table.letters word.now p) }
 {
     match weigh(memory, table, word, rows) {
         Ok(x) => Ok(x.code()),

@@ -16,7 +16,7 @@ use text::shape::Shape;
 fn put_codes<F: Field>(out: &mut [u8], elements: &[F])
     requires few { length elements.now ≤ 16 }
     requires room { length out.old ≡ 11 * length elements.now }
-    ensures written { out.new ≡ numbers (codes_of field value elements.now) }
+    ensures written { out.new ≡ numbers (codes_of F.field F.value elements.now) }
 {
     for (i, x) in elements.iter().enumerate() {
         put_number(&mut out[11 * i..11 * i + 11], x.code());
@@ -27,7 +27,7 @@ fn put_codes<F: Field>(out: &mut [u8], elements: &[F])
 fn put_line<F: Field>(out: &mut [u8], kind: Kind, elements: &[F])
     requires few { length elements.now ≤ 16 }
     requires room { length out.old ≡ 2 + 11 * length elements.now }
-    ensures written { out.new ≡ line_of (letter_of kind) (codes_of field value elements.now) }
+    ensures written { out.new ≡ line_of (letter_of kind) (codes_of F.field F.value elements.now) }
 {
     let end = 1 + 11 * elements.len();
     out[0] = letter_of(kind);
@@ -41,7 +41,7 @@ fn put_matrix_line<F: Field>(out: &mut [u8], letter: u64, row: u64, elements: &[
     requires room { length out.old ≡ 24 + 11 * length elements.now }
     requires letter_small { letter < 10 ^ 10 }
     requires row_small { row < 10 ^ 10 }
-    ensures written { out.new ≡ line_of (letter_of Kind.Matrix) (letter ∷ row ∷ codes_of field value elements.now) }
+    ensures written { out.new ≡ line_of (letter_of Kind.Matrix) (letter ∷ row ∷ codes_of F.field F.value elements.now) }
 {
     let end = 23 + 11 * elements.len();
     out[0] = letter_of(Kind::Matrix);
@@ -58,7 +58,7 @@ fn put_matrices<F: Field>(out: &mut [u8], n: usize, count: usize, elements: &[F]
     requires some { 0 < count → 0 < n }
     requires all { length elements.now ≡ count * n }
     requires room { length out.old ≡ count * (24 + 11 * n) }
-    ensures written { out.new ≡ row_lines n (codes_of field value elements.now) count }
+    ensures written { out.new ≡ row_lines n (codes_of F.field F.value elements.now) count }
 {
     let width = 24 + 11 * n;
     for j in 0..count {
@@ -77,7 +77,7 @@ fn put_matrices<F: Field>(out: &mut [u8], n: usize, count: usize, elements: &[F]
 fn put_table_line<F: Field>(out: &mut [u8], shape: Shape)
     requires limits { Limits shape.states shape.letters }
     requires room { length out.old ≡ 35 }
-    ensures written { out.new ≡ line_of (letter_of Kind.Table) (shape.states ∷ shape.letters ∷ field.q ∷ []) }
+    ensures written { out.new ≡ line_of (letter_of Kind.Table) (shape.states ∷ shape.letters ∷ F.field.q ∷ []) }
 {
     out[0] = letter_of(Kind::Table);
     put_number(&mut out[1..12], shape.states as u64);
@@ -91,7 +91,7 @@ fn put_body<F: Field>(out: &mut [u8], shape: Shape, elements: &[F])
     requires limits { Limits shape.states shape.letters }
     requires all { length elements.now ≡ table_size shape.states shape.letters }
     requires room { length out.old + 35 ≡ text_size shape.states shape.letters }
-    ensures written { out.new ≡ body_of field (table_at field value elements.now 0 shape.states shape.letters) }
+    ensures written { out.new ≡ body_of F.field (table_at F.field F.value elements.now 0 shape.states shape.letters) }
 {
     let n = shape.states;
     let count = shape.letters * n;
@@ -128,7 +128,7 @@ pub fn write_table<F: Field>(shelf: &[F], base: usize, shape: Shape, output: &mu
     requires table_within { base + table_size shape.states shape.letters ≤ length shelf.now }
     requires room { text_size shape.states shape.letters ≤ length output.old }
     ensures counted { result ≡ text_size shape.states shape.letters }
-    ensures written { take result output.new ≡ text_of field (table_at field value shelf.now base shape.states shape.letters) }
+    ensures written { take result output.new ≡ text_of F.field (table_at F.field F.value shelf.now base shape.states shape.letters) }
     ensures later_bytes_kept { drop result output.new ≡ drop result output.old }
 {
     let n = shape.states;
