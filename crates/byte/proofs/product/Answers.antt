@@ -3,8 +3,8 @@ use Rattle.byte.specs.Bytes.{bit_lt, half_raised_lt}
 use Rattle.byte.proofs.Turns.{turn, start, ends}
 use Rattle.byte.proofs.product.Goals as goal
 
-pub overflow-mul-sum : goal.overflow-mul-sum
-overflow-mul-sum c = record { fits = bit_lt c.loop-i.y c.loop-i.x c.loop-i.invariant.0 }
+pub overflow_mul-sum : goal.overflow_mul-sum
+overflow_mul-sum c = record { fits = bit_lt c.loop-i.y c.loop-i.x c.loop-i.invariant.0 }
 
 pub loop-i-init : goal.loop-i-init
 loop-i-init c = (omega arith, start c.args.a c.args.b)

@@ -4,8 +4,8 @@ use Rattle.rows.proofs.Memory.{at_read, frame_then}
 use Rattle.elimination.proofs.Remainders.{echelon_same, rows_stay, remainder_copied, remainder_nothing, remainder_room}
 use Rattle.elimination.proofs.keep_row.Goals as goal
 
-pub reduce-row-requires : goal.reduce-row-requires
-reduce-row-requires g c =
+pub reduce_row-requires : goal.reduce_row-requires
+reduce_row-requires g c =
     let K = g.F.Field.field in let v = g.F.Field.value in
     let a = c.args in
     let p : ℕ → ℕ = λ b. get_or a.pivots.now b 0 in
@@ -19,8 +19,8 @@ reduce-row-requires g c =
       ones_at_pivots = λ b h. s b h (p b) (c.requires.echelon.within b h) ∙ c.requires.ones_at_pivots b h;
     }
 
-pub returns-in-err-pivot : goal.returns-in-err-pivot
-returns-in-err-pivot g c =
+pub returns-in_err-pivot : goal.returns-in_err-pivot
+returns-in_err-pivot g c =
     let K = g.F.Field.field in let v = g.F.Field.value in
     let a = c.args in
     let last = a.rows + a.count * a.n in
@@ -28,18 +28,18 @@ returns-in-err-pivot g c =
     let copied = c.move_block.ensures.very_elements_copied in
     let y = row_at K v c.reduce_row.new.work last in
     let left = remainder_copied K v a.from a.rows a.count a.n copied (omega arith) (omega arith) p y c.reduce_row.ensures.remainder in
-    rw c.from-residual.ensures
+    rw c.from_residual.ensures
     record {
-      nothing_left_or_new_row = remainder_nothing K a.n a.count (square_at K v a.work.now a.rows a.n) p (row_at K v a.work.now a.from) y left c.in-err-pivot.ensures.first_or_all_zero;
+      nothing_left_or_new_row = remainder_nothing K a.n a.count (square_at K v a.work.now a.rows a.n) p (row_at K v a.work.now a.from) y left c.in_err-pivot.ensures.first_or_all_zero;
       all_else_unchanged = frame_then last a.n copied.frame c.reduce_row.ensures.all_else_unchanged (omega arith) (omega arith) (omega arith) (omega arith);
     }
 
-pub returns-in-err-factor : goal.returns-in-err-factor
-returns-in-err-factor g c =
-    let f = c.in-ok-pivot.ensures.first_or_all_zero in
+pub returns-in_err-factor : goal.returns-in_err-factor
+returns-in_err-factor g c =
+    let f = c.in_ok-pivot.ensures.first_or_all_zero in
     let within = f.within in
     let read = at_read g.F.Field.field g.F.Field.value c.reduce_row.new.work _ c.index-work-last.result (omega arith) c.index-work-last.is in
-    absurd (f.apart (sym read ∙ c.in-err-factor.ensures.is_inverse_unless_zero))
+    absurd (f.apart (sym read ∙ c.in_err-factor.ensures.is_inverse_unless_zero))
 
 pub returns : goal.returns
 returns g c =
@@ -53,9 +53,9 @@ returns g c =
     let ws = c.reduce_row.new.work in
     let y = row_at K v ws last in
     let left = remainder_copied K v a.from a.rows a.count a.n copied (omega arith) (omega arith) p y c.reduce_row.ensures.remainder in
-    let f = c.in-ok-pivot.ensures.first_or_all_zero in
+    let f = c.in_ok-pivot.ensures.first_or_all_zero in
     let within = f.within in
-    let read = at_read K v ws (last + c.in-ok-pivot.pivot) c.index-work-last.result (omega arith) c.index-work-last.is in
+    let read = at_read K v ws (last + c.in_ok-pivot.pivot) c.index-work-last.result (omega arith) c.index-work-last.is in
     let scaled = c.scale_row.ensures.multiple_written in
     record {
       nothing_left_or_new_row = record {
@@ -63,29 +63,29 @@ returns g c =
         remainder = left;
         within = within;
         apart = f.apart;
-        scaled = λ j l. scaled.done j l ∙ ap (λ e. K.times e (y j)) (c.in-ok-factor.ensures.is_inverse_unless_zero.1 ∙ ap K.inverse read);
-        room = remainder_room K a.n a.count q p x y c.requires.echelon left c.in-ok-pivot.pivot within f.apart;
+        scaled = λ j l. scaled.done j l ∙ ap (λ e. K.times e (y j)) (c.in_ok-factor.ensures.is_inverse_unless_zero.1 ∙ ap K.inverse read);
+        room = remainder_room K a.n a.count q p x y c.requires.echelon left c.in_ok-pivot.pivot within f.apart;
       };
       all_else_unchanged = frame_then last a.n (frame_then last a.n copied.frame c.reduce_row.ensures.all_else_unchanged (omega arith) (omega arith) (omega arith) (omega arith)) scaled.frame (omega arith) (omega arith) (omega arith) (omega arith);
     }
 
-pub overflow-mul-last : goal.overflow-mul-last
-overflow-mul-last g c = omega arith
+pub overflow_mul-last : goal.overflow_mul-last
+overflow_mul-last g c = omega arith
 
-pub overflow-add-last : goal.overflow-add-last
-overflow-add-last g c = omega arith
+pub overflow_add-last : goal.overflow_add-last
+overflow_add-last g c = omega arith
 
-pub move-block-requires : goal.move-block-requires
-move-block-requires g c = record { from_within = omega arith; to_within = omega arith; apart = inl (omega arith) }
+pub move_block-requires : goal.move_block-requires
+move_block-requires g c = record { from_within = omega arith; to_within = omega arith; apart = inl (omega arith) }
 
-pub first-nonzero-requires : goal.first-nonzero-requires
-first-nonzero-requires g c = record { row_within = omega arith }
+pub first_nonzero-requires : goal.first_nonzero-requires
+first_nonzero-requires g c = record { row_within = omega arith }
 
-pub overflow-add-last-2 : goal.overflow-add-last-2
-overflow-add-last-2 g c = let within = c.in-ok-pivot.ensures.first_or_all_zero.within in omega arith
+pub overflow_add-last-2 : goal.overflow_add-last-2
+overflow_add-last-2 g c = let within = c.in_ok-pivot.ensures.first_or_all_zero.within in omega arith
 
 pub bounds-work-last : goal.bounds-work-last
-bounds-work-last g c = let within = c.in-ok-pivot.ensures.first_or_all_zero.within in omega arith
+bounds-work-last g c = let within = c.in_ok-pivot.ensures.first_or_all_zero.within in omega arith
 
-pub scale-row-requires : goal.scale-row-requires
-scale-row-requires g c = record { to_within = omega arith }
+pub scale_row-requires : goal.scale_row-requires
+scale_row-requires g c = record { to_within = omega arith }

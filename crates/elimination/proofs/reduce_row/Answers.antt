@@ -14,11 +14,11 @@ loop-b-init g c =
       record { len = refl; below = λ k d l. refl; above = λ k d l. refl },
     )
 
-pub overflow-add-rows : goal.overflow-add-rows
-overflow-add-rows g c = omega (arith, mul-le (c.loop-b.b + 1) c.args.n c.args.count c.args.n (omega arith) (omega arith))
+pub overflow_add-rows : goal.overflow_add-rows
+overflow_add-rows g c = omega (arith, mul-le (c.loop-b.b + 1) c.args.n c.args.count c.args.n (omega arith) (omega arith))
 
-pub subtract-multiple-requires : goal.subtract-multiple-requires
-subtract-multiple-requires g c =
+pub subtract_multiple-requires : goal.subtract_multiple-requires
+subtract_multiple-requires g c =
     let block = mul-le (c.loop-b.b + 1) c.args.n c.args.count c.args.n (omega arith) (omega arith) in
     record { from_within = omega arith; to_within = omega arith; apart = grind arith }
 

@@ -5,13 +5,13 @@ use Rattle.rows.specs.Tables.{table_of}
 use Rattle.reduction.proofs.ReducedTables.{reduced_written, reduced_weighs, reduced_smallest, reduced_none}
 use Rattle.reduction.proofs.reduce.Goals as goal
 
-pub write-form-requires : goal.write-form-requires
-write-form-requires g c =
+pub write_form-requires : goal.write_form-requires
+write_form-requires g c =
     let lies = c.requires.lies in
-    let walked = c.leading-words-found.ensures.finished.2 in
-    let n = c.leading-words-found.result in
+    let walked = c.leading_words-found.ensures.finished.2 in
+    let n = c.leading_words-found.result in
     let k = c.args.table.letters in
-    let few = c.spanning-columns-columns.ensures.few in
+    let few = c.spanning_columns-columns.ensures.few in
     let states : n ≤ 16 = omega (arith, walked.few) in
     let square = mul-le n n 16 16 states states in
     let matrices = mul-le k (n * n) 6 256 lies.few_letters (omega arith) in
@@ -26,12 +26,12 @@ pub returns : goal.returns
 returns g c =
     let K = g.F.Field.field in let v = g.F.Field.value in
     let T = table_of K v c.args.shelf.now c.args.table in
-    let finished = c.leading-words-found.ensures.finished in
-    let n = c.leading-words-found.result in
-    let few = c.spanning-columns-columns.ensures.few in
+    let finished = c.leading_words-found.ensures.finished in
+    let n = c.leading_words-found.result in
+    let few = c.spanning_columns-columns.ensures.few in
     let ys = c.write_form.new.work in
     let R = table_at K v ys 0 n T.letters in
-    let reduced = reduced_written K v T c.spanning-columns-columns.result n 0 c.leading-words-found.new.work ys finished c.write_form.ensures.form_written.same in
+    let reduced = reduced_written K v T c.spanning_columns-columns.result n 0 c.leading_words-found.new.work ys finished c.write_form.ensures.form_written.same in
     record {
       reduced_form = reduced;
       no_more_states = omega (arith, finished.2.few);

@@ -3,8 +3,8 @@ use lib.Bits.{xor_lt}
 use Rattle.field.specs.Below.{same_below}
 use Rattle.byte.proofs.ByteField.add.Goals as goal
 
-pub invariant-of-result : goal.invariant-of-result
-invariant-of-result c = (xor_lt 8 c.args.self.n c.args.other.n c.args.self.below c.args.other.below, tt)
+pub invariant_of-result : goal.invariant_of-result
+invariant_of-result c = (xor_lt 8 c.args.self.n c.args.other.n c.args.self.below c.args.other.below, tt)
 
 pub returns : goal.returns
 returns c = record { is_sum = same_below _ _ refl }

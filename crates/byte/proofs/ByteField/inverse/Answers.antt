@@ -16,9 +16,9 @@ loop-i-preserved c =
     power_turn c.loop-i._i c.loop-i.r c.loop-i.s c.product-s.result c.product-r.result c.loop-i-test.true c.product-s.ensures.is_product c.product-r.ensures.is_product
     ∙ c.loop-i.invariant
 
-pub invariant-of-result : goal.invariant-of-result
-invariant-of-result c =
-    let e : c.loop-i.r ≡ inverse_of c.args.self.n = sym (power_ends c.loop-i.-i c.loop-i.r c.loop-i.s c.loop-i-test.false) ∙ c.loop-i.invariant in
+pub invariant_of-result : goal.invariant_of-result
+invariant_of-result c =
+    let e : c.loop-i.r ≡ inverse_of c.args.self.n = sym (power_ends c.loop-i._i c.loop-i.r c.loop-i.s c.loop-i-test.false) ∙ c.loop-i.invariant in
     (omega (arith, inverse_lt c.args.self.n), tt)
 
 pub returns : goal.returns

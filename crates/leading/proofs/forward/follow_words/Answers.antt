@@ -4,8 +4,8 @@ use Rattle.leading.specs.Forward.{Walked}
 use Rattle.leading.proofs.LeadingWords.{walked_trying, trying_walked}
 use Rattle.leading.proofs.forward.follow_words.Goals as goal
 
-pub try-letters-requires : goal.try-letters-requires
-try-letters-requires g c =
+pub try_letters-requires : goal.try_letters-requires
+try_letters-requires g c =
     let K = g.F.Field.field in let v = g.F.Field.value in
     let a = c.args in
     let walked = c.loop-i.invariant.0 in

@@ -9,8 +9,8 @@ use Rattle.elimination.proofs.Offsets.{row_before}
 use Rattle.spanning.specs.Plan.{column_at, word_row_at, tracked_at, coefficients_from}
 use Rattle.leading.proofs.forward.next_row.Goals as goal
 
-pub row-times-matrix-requires : goal.row-times-matrix-requires
-row-times-matrix-requires g c =
+pub row_times_matrix-requires : goal.row_times_matrix-requires
+row_times_matrix-requires g c =
     let a = c.args in
     let t = a.table in
     let is = c.matrix.ensures.is_matrix_offset in

@@ -5,11 +5,11 @@ use Rattle.leading.specs.Forward.{WalkedBy}
 use Rattle.leading.proofs.LeadingWords.{start_held, empty_skip, empty_keep}
 use Rattle.leading.proofs.forward.try_empty.Goals as goal
 
-pub see-row-requires : goal.see-row-requires
-see-row-requires g c = let view = c.requires.spanned.view in record { small = (c.requires.lies.few_states, (view.few_columns, omega arith)); room = omega arith }
+pub see_row-requires : goal.see_row-requires
+see_row-requires g c = let view = c.requires.spanned.view in record { small = (c.requires.lies.few_states, (view.few_columns, omega arith)); room = omega arith }
 
-pub track-row-requires : goal.track-row-requires
-track-row-requires g c =
+pub track_row-requires : goal.track_row-requires
+track_row-requires g c =
     let K = g.F.Field.field in let v = g.F.Field.value in
     let a = c.args in
     let spanned = c.requires.spanned in

@@ -3,14 +3,14 @@ use Rattle.rows.specs.Tables.{table_of}
 use Rattle.leading.proofs.LeadingWords.{written_moved, tried_skip, tried_keep}
 use Rattle.leading.proofs.forward.try_letter.Goals as goal
 
-pub next-row-requires : goal.next-row-requires
-next-row-requires g c =
+pub next_row-requires : goal.next_row-requires
+next_row-requires g c =
     let view = c.requires.due.0 in
     let due = c.requires.due.1 in
     record { lies = c.requires.lies; room = omega arith; small = (view.few_columns, (due.few, due.inside)); letter_of_table = (omega arith, omega arith) }
 
-pub track-row-requires : goal.track-row-requires
-track-row-requires g c =
+pub track_row-requires : goal.track_row-requires
+track_row-requires g c =
     let K = g.F.Field.field in let v = g.F.Field.value in
     let a = c.args in
     let view = c.requires.due.0 in

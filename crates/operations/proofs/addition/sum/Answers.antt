@@ -14,7 +14,7 @@ returns g c =
     let t = c.args.right in
     let xs = c.args.shelf.now in
     let T = sum_table K (table_of K v xs s) (table_of K v xs t) in
-    let last : Written K v (end_offset c.args.to T.states T.letters) T.states T.end c.write_sum_rows.new.work c.write-beside-2.new.work =
-    simp (c.end.ensures.is_end_offset, c.end-2.ensures.is_end_offset, c.end-3.ensures.is_end_offset) at c.write-beside-2.ensures.rows_beside in
+    let last : Written K v (end_offset c.args.to T.states T.letters) T.states T.end c.write_sum_rows.new.work c.write_beside-2.new.work =
+    simp (c.end.ensures.is_end_offset, c.end-2.ensures.is_end_offset, c.end-3.ensures.is_end_offset) at c.write_beside-2.ensures.rows_beside in
     let made = table_from_parts K v T c.write_beside.ensures.rows_beside c.write_sum_rows.ensures.rows_of_sum_table last in
     record { sum_written = made; weighs_the_sum = λ w o. written_weighs K v T made w o ∙ sum_weight K (table_of K v xs s) (table_of K v xs t) w }

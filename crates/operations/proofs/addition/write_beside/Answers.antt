@@ -10,5 +10,5 @@ returns g c =
       rows_beside =
           written_beside K v
           (copied_written K v c.copy_block.ensures.very_elements_copied (omega arith) (omega arith))
-          (copied_written K v c.copy-block-2.ensures.very_elements_copied (omega arith) (omega arith));
+          (copied_written K v c.copy_block-2.ensures.very_elements_copied (omega arith) (omega arith));
     }

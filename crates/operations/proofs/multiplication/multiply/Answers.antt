@@ -14,7 +14,7 @@ returns g c =
     let t = c.args.right in
     let xs = c.args.shelf.now in
     let T = product_table K (table_of K v xs s) (table_of K v xs t) in
-    let last : Written K v (end_offset c.args.to T.states T.letters) T.states T.end c.write_product_rows.new.work c.write-products-2.new.work =
-    simp (c.end.ensures.is_end_offset, c.end-2.ensures.is_end_offset, c.end-3.ensures.is_end_offset) at c.write-products-2.ensures.products_written in
+    let last : Written K v (end_offset c.args.to T.states T.letters) T.states T.end c.write_product_rows.new.work c.write_products-2.new.work =
+    simp (c.end.ensures.is_end_offset, c.end-2.ensures.is_end_offset, c.end-3.ensures.is_end_offset) at c.write_products-2.ensures.products_written in
     let made = table_from_parts K v T c.write_products.ensures.products_written c.write_product_rows.ensures.rows_of_product_table last in
     record { product_written = made; weighs_the_product = λ w o. written_weighs K v T made w o ∙ product_weight K (table_of K v xs s) (table_of K v xs t) w }

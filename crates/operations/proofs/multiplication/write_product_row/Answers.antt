@@ -6,24 +6,24 @@ use Rattle.rows.proofs.Layouts.{row_within, matrix_row}
 use Rattle.rows.proofs.Memory.{written_same}
 use Rattle.operations.proofs.multiplication.write_product_row.Goals as goal
 
-pub nonzero-div-state : goal.nonzero-div-state
-nonzero-div-state g c = let at = matrix_row c.args.left.states c.args.right.states c.args.state (omega arith) in at.some
+pub nonzero_div-state : goal.nonzero_div-state
+nonzero_div-state g c = let at = matrix_row c.args.left.states c.args.right.states c.args.state (omega arith) in at.some
 
-pub nonzero-rem-state : goal.nonzero-rem-state
-nonzero-rem-state g c = let at = matrix_row c.args.left.states c.args.right.states c.args.state (omega arith) in at.some
+pub nonzero_rem-state : goal.nonzero_rem-state
+nonzero_rem-state g c = let at = matrix_row c.args.left.states c.args.right.states c.args.state (omega arith) in at.some
 
-pub matrix-row-requires : goal.matrix-row-requires
-matrix-row-requires g c =
+pub matrix_row-requires : goal.matrix_row-requires
+matrix_row-requires g c =
     let at = matrix_row c.args.left.states c.args.right.states c.args.state (omega arith) in
     record { small = (omega arith, omega arith); letter_of_table = (omega arith, omega arith); row_of_table = omega arith; within = omega arith }
 
-pub matrix-row-requires-2 : goal.matrix-row-requires-2
-matrix-row-requires-2 g c =
+pub matrix_row-requires-2 : goal.matrix_row-requires-2
+matrix_row-requires-2 g c =
     let at = matrix_row c.args.left.states c.args.right.states c.args.state (omega arith) in
     record { small = (omega arith, omega arith); letter_of_table = (omega arith, omega arith); row_of_table = omega arith; within = omega arith }
 
-pub write-products-requires : goal.write-products-requires
-write-products-requires g c =
+pub write_products-requires : goal.write_products-requires
+write_products-requires g c =
     let at = matrix_row c.args.left.states c.args.right.states c.args.state (omega arith) in
     let s = c.args.left in
     let t = c.args.right in

@@ -11,17 +11,17 @@ use Rattle.operations.proofs.multiplication.write_product_rows.Goals as goal
 pub loop-r-init : goal.loop-r-init
 loop-r-init g c = rows_none g.F.Field.field g.F.Field.value _ _ _ _
 
-pub nonzero-div-r : goal.nonzero-div-r
-nonzero-div-r g c = let at = matrix_row c.args.left.letters (c.args.left.states * c.args.right.states) c.loop-r.r (omega arith) in at.some
+pub nonzero_div-r : goal.nonzero_div-r
+nonzero_div-r g c = let at = matrix_row c.args.left.letters (c.args.left.states * c.args.right.states) c.loop-r.r (omega arith) in at.some
 
-pub nonzero-rem-r : goal.nonzero-rem-r
-nonzero-rem-r g c = let at = matrix_row c.args.left.letters (c.args.left.states * c.args.right.states) c.loop-r.r (omega arith) in at.some
+pub nonzero_rem-r : goal.nonzero_rem-r
+nonzero_rem-r g c = let at = matrix_row c.args.left.letters (c.args.left.states * c.args.right.states) c.loop-r.r (omega arith) in at.some
 
-pub overflow-add-to : goal.overflow-add-to
-overflow-add-to g c = let at = matrix_row c.args.left.letters (c.args.left.states * c.args.right.states) c.loop-r.r (omega arith) in omega arith
+pub overflow_add-to : goal.overflow_add-to
+overflow_add-to g c = let at = matrix_row c.args.left.letters (c.args.left.states * c.args.right.states) c.loop-r.r (omega arith) in omega arith
 
-pub write-product-row-requires : goal.write-product-row-requires
-write-product-row-requires g c =
+pub write_product_row-requires : goal.write_product_row-requires
+write_product_row-requires g c =
     let at = matrix_row c.args.left.letters (c.args.left.states * c.args.right.states) c.loop-r.r (omega arith) in
     record {
       left_lies = c.requires.left_lies;

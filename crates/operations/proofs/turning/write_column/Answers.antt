@@ -8,20 +8,20 @@ loop-j-preserved g c =
     let x = c.index-shelf-from in
     written_more K v x.result c.loop-j.invariant (omega arith) (at_read K v c.args.shelf.now _ x.result (c.requires.column_within c.loop-j.j (omega arith)) x.is)
 
-pub overflow-mul-work : goal.overflow-mul-work
-overflow-mul-work g c = let within = c.requires.column_within c.loop-j.j (omega arith) in omega arith
+pub overflow_mul-work : goal.overflow_mul-work
+overflow_mul-work g c = let within = c.requires.column_within c.loop-j.j (omega arith) in omega arith
 
-pub overflow-add-work : goal.overflow-add-work
-overflow-add-work g c = let within = c.requires.column_within c.loop-j.j (omega arith) in omega arith
+pub overflow_add-work : goal.overflow_add-work
+overflow_add-work g c = let within = c.requires.column_within c.loop-j.j (omega arith) in omega arith
 
-pub offset-bounds-shelf-from : goal.offset-bounds-shelf-from
-offset-bounds-shelf-from g c = let within = c.requires.column_within c.loop-j.j (omega arith) in omega arith
+pub offset_bounds-shelf-from : goal.offset_bounds-shelf-from
+offset_bounds-shelf-from g c = let within = c.requires.column_within c.loop-j.j (omega arith) in omega arith
 
 pub bounds-shelf-from : goal.bounds-shelf-from
 bounds-shelf-from g c = let within = c.requires.column_within c.loop-j.j (omega arith) in omega arith
 
-pub overflow-add-to : goal.overflow-add-to
-overflow-add-to g c = omega arith
+pub overflow_add-to : goal.overflow_add-to
+overflow_add-to g c = omega arith
 
 pub bounds-work-to : goal.bounds-work-to
 bounds-work-to g c = omega arith

@@ -10,25 +10,25 @@ use Rattle.operations.proofs.turning.write_turned_rows.Goals as goal
 pub loop-r-init : goal.loop-r-init
 loop-r-init g c = rows_none g.F.Field.field g.F.Field.value _ _ _ _
 
-pub nonzero-div-r : goal.nonzero-div-r
-nonzero-div-r g c = let at = matrix_row c.args.table.letters c.args.table.states c.loop-r.r (omega arith) in at.some
+pub nonzero_div-r : goal.nonzero_div-r
+nonzero_div-r g c = let at = matrix_row c.args.table.letters c.args.table.states c.loop-r.r (omega arith) in at.some
 
 pub matrix-requires : goal.matrix-requires
 matrix-requires g c =
     let at = matrix_row c.args.table.letters c.args.table.states c.loop-r.r (omega arith) in
     record { small = (omega arith, omega arith); letter_of_table = (omega arith, omega arith); within = omega arith }
 
-pub overflow-add-matrix : goal.overflow-add-matrix
-overflow-add-matrix g c =
+pub overflow_add-matrix : goal.overflow_add-matrix
+overflow_add-matrix g c =
     let at = matrix_row c.args.table.letters c.args.table.states c.loop-r.r (omega arith) in
     let t = c.args.table in
     omega (arith, row_within t.base t.states t.letters (c.loop-r.r / t.states + 1) 0 (omega arith) (omega arith) (omega arith))
 
-pub overflow-add-to : goal.overflow-add-to
-overflow-add-to g c = let at = matrix_row c.args.table.letters c.args.table.states c.loop-r.r (omega arith) in omega arith
+pub overflow_add-to : goal.overflow_add-to
+overflow_add-to g c = let at = matrix_row c.args.table.letters c.args.table.states c.loop-r.r (omega arith) in omega arith
 
-pub write-column-requires : goal.write-column-requires
-write-column-requires g c =
+pub write_column-requires : goal.write_column-requires
+write_column-requires g c =
     let at = matrix_row c.args.table.letters c.args.table.states c.loop-r.r (omega arith) in
     let t = c.args.table in
     record {
@@ -41,14 +41,14 @@ loop-r-preserved g c =
     let K = g.F.Field.field in let v = g.F.Field.value in
     rows_more K v c.loop-r.invariant (written_same K v c.write_column.ensures.column_written (λ j l. ap (at K v c.args.shelf.now) (omega arith)))
 
-pub overflow-add-r : goal.overflow-add-r
-overflow-add-r g c = let at = matrix_row c.args.table.letters c.args.table.states c.loop-r.r (omega arith) in omega arith
+pub overflow_add-r : goal.overflow_add-r
+overflow_add-r g c = let at = matrix_row c.args.table.letters c.args.table.states c.loop-r.r (omega arith) in omega arith
 
-pub nonzero-rem-r : goal.nonzero-rem-r
-nonzero-rem-r g c = let at = matrix_row c.args.table.letters c.args.table.states c.loop-r.r (omega arith) in at.some
+pub nonzero_rem-r : goal.nonzero_rem-r
+nonzero_rem-r g c = let at = matrix_row c.args.table.letters c.args.table.states c.loop-r.r (omega arith) in at.some
 
-pub overflow-mul-r : goal.overflow-mul-r
-overflow-mul-r g c = let at = matrix_row c.args.table.letters c.args.table.states c.loop-r.r (omega arith) in omega arith
+pub overflow_mul-r : goal.overflow_mul-r
+overflow_mul-r g c = let at = matrix_row c.args.table.letters c.args.table.states c.loop-r.r (omega arith) in omega arith
 
 pub loop-r-smaller : goal.loop-r-smaller
 loop-r-smaller g c = omega arith

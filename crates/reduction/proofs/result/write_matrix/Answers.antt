@@ -6,8 +6,8 @@ use Rattle.spanning.specs.Plan.{coefficients_at}
 use Rattle.reduction.proofs.Forms.{matrix_more, matrix_front}
 use Rattle.reduction.proofs.result.write_matrix.Goals as goal
 
-pub move-block-requires : goal.move-block-requires
-move-block-requires g c =
+pub move_block-requires : goal.move_block-requires
+move_block-requires g c =
     let a = c.args in
     let n = a.form.states in
     let is = c.matrix-to.ensures.is_matrix_offset in

@@ -5,11 +5,11 @@ use Rattle.rows.proofs.Sums.{dot_same}
 use Rattle.rows.proofs.Memory.{written_more, frame_row}
 use Rattle.rows.proofs.arithmetic.matrix_times_column.Goals as goal
 
-pub overflow-mul-i : goal.overflow-mul-i
-overflow-mul-i g c = omega (arith, mul-le (c.loop-i.i + 1) c.args.n c.args.n c.args.n (omega arith) (omega arith))
+pub overflow_mul-i : goal.overflow_mul-i
+overflow_mul-i g c = omega (arith, mul-le (c.loop-i.i + 1) c.args.n c.args.n c.args.n (omega arith) (omega arith))
 
-pub overflow-add-matrix : goal.overflow-add-matrix
-overflow-add-matrix g c = omega (arith, mul-le (c.loop-i.i + 1) c.args.n c.args.n c.args.n (omega arith) (omega arith))
+pub overflow_add-matrix : goal.overflow_add-matrix
+overflow_add-matrix g c = omega (arith, mul-le (c.loop-i.i + 1) c.args.n c.args.n c.args.n (omega arith) (omega arith))
 
 pub dot-x-requires : goal.dot-x-requires
 dot-x-requires g c =

@@ -5,8 +5,8 @@ use Rattle.rows.proofs.Sums.{dot_same}
 use Rattle.rows.proofs.Memory.{written_more, frame_row}
 use Rattle.rows.proofs.arithmetic.row_times_matrix.Goals as goal
 
-pub overflow-add-matrix : goal.overflow-add-matrix
-overflow-add-matrix g c = omega (arith, mul-add-lt 0 c.args.n c.loop-j.j c.args.n (omega arith) (omega arith))
+pub overflow_add-matrix : goal.overflow_add-matrix
+overflow_add-matrix g c = omega (arith, mul-add-lt 0 c.args.n c.loop-j.j c.args.n (omega arith) (omega arith))
 
 pub dot-x-requires : goal.dot-x-requires
 dot-x-requires g c =

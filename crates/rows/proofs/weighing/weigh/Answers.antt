@@ -9,14 +9,14 @@ use Rattle.rows.proofs.Layouts.{matrix_within}
 use Rattle.rows.proofs.Words.{over_more, first_outside, row_more}
 use Rattle.rows.proofs.weighing.weigh.Goals as goal
 
-pub copy-block-requires : goal.copy-block-requires
-copy-block-requires g c = record { source_within = omega arith; to_within = omega arith }
+pub copy_block-requires : goal.copy_block-requires
+copy_block-requires g c = record { source_within = omega arith; to_within = omega arith }
 
 pub matrix-requires : goal.matrix-requires
 matrix-requires g c = record { small = (c.requires.table_lies.few_states, c.requires.table_lies.few_letters); letter_of_table = (omega arith, omega arith); within = omega arith }
 
-pub move-block-requires : goal.move-block-requires
-move-block-requires g c = record { from_within = omega arith; to_within = omega arith; apart = inr (omega arith) }
+pub move_block-requires : goal.move_block-requires
+move_block-requires g c = record { from_within = omega arith; to_within = omega arith; apart = inr (omega arith) }
 
 pub end-requires : goal.end-requires
 end-requires g c = record { small = (c.requires.table_lies.few_states, c.requires.table_lies.few_letters); within = omega arith }
@@ -38,8 +38,8 @@ returns-then-letter-lt1 g c =
       two_rows_used = frame_then 0 (n + n) c.copy_block.ensures.very_elements_copied.frame c.loop-i.invariant.2 (omega arith) (omega arith) (omega arith) (omega arith);
     }
 
-pub row-times-matrix-requires : goal.row-times-matrix-requires
-row-times-matrix-requires g c =
+pub row_times_matrix-requires : goal.row_times_matrix-requires
+row_times_matrix-requires g c =
     let n = c.args.table.states in
     record {
       from_within = omega arith;

@@ -22,8 +22,8 @@ returns-in-Some g c =
 
 pub spell-word-requires : goal.spell-word-requires
 spell-word-requires g c =
-    let f = c.in-Some-try-rest.ensures.through_or_found in
-    let r = c.in-Some-try-rest.f in
+    let f = c.in-Some-try_rest.ensures.through_or_found in
+    let r = c.in-Some-try_rest.f in
     let few = f.few in
     let letter = f.letter in
     let short = f.difference.short in
@@ -33,14 +33,14 @@ spell-word-requires g c =
       letter = omega arith;
     }
 
-pub returns-in-Some-try-rest : goal.returns-in-Some-try-rest
-returns-in-Some-try-rest g c =
+pub returns-in-Some-try_rest : goal.returns-in-Some-try_rest
+returns-in-Some-try_rest g c =
     let K = g.F.Field.field in let v = g.F.Field.value in
     let a = c.args in
     let S = table_of K v a.shelf.now a.left in
     let T = table_of K v a.shelf.now a.right in
-    let f = c.in-Some-try-rest.ensures.through_or_found in
-    let r = c.in-Some-try-rest.f in
+    let f = c.in-Some-try_rest.ensures.through_or_found in
+    let r = c.in-Some-try_rest.f in
     let x = f.words r.parent ++ r.letter ∷ [] in
     let tried = 1 + r.parent * a.left.letters + r.letter in
     let s = c.spell-word.ensures.spells_word f.words f.linked in
@@ -59,7 +59,7 @@ returns g c =
     let a = c.args in
     let S = table_of K v a.shelf.now a.left in
     let T = table_of K v a.shelf.now a.right in
-    let p = c.in-default-try-rest.ensures.through_or_found in
+    let p = c.in_default-try_rest.ensures.through_or_found in
     let n = c.try_rest.new.walk.count in
     let few = p.few in
     let all = no_difference K S T n p.words (record { ascends = p.ascends; good = p.good; whole = p.done refl }) p.few p.held.alike in
@@ -70,8 +70,8 @@ returns g c =
       alike_if_all_weigh_alike = λ e. tt;
     }
 
-pub try-empty-requires : goal.try-empty-requires
-try-empty-requires g c = record { tables_lie = record { left_lies = c.requires.left_lies; right_lies = c.requires.right_lies; same_letters = c.requires.same_letters }; room = c.requires.room; no_word = c.new-walk.ensures.no_word }
+pub try_empty-requires : goal.try_empty-requires
+try_empty-requires g c = record { tables_lie = record { left_lies = c.requires.left_lies; right_lies = c.requires.right_lies; same_letters = c.requires.same_letters }; room = c.requires.room; no_word = c.new-walk.ensures.no_word }
 
-pub try-rest-requires : goal.try-rest-requires
-try-rest-requires g c = record { tables_lie = record { left_lies = c.requires.left_lies; right_lies = c.requires.right_lies; same_letters = c.requires.same_letters }; room = omega arith; begun = c.in-default.ensures.begun_or_found }
+pub try_rest-requires : goal.try_rest-requires
+try_rest-requires g c = record { tables_lie = record { left_lies = c.requires.left_lies; right_lies = c.requires.right_lies; same_letters = c.requires.same_letters }; room = omega arith; begun = c.in_default.ensures.begun_or_found }

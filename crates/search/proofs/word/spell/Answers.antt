@@ -17,8 +17,8 @@ loop-j-init c =
       λ words l. (is words l, last_written (words c.args.parent) c.args.letter place room),
     )
 
-pub overflow-sub-place : goal.overflow-sub-place
-overflow-sub-place c =
+pub overflow_sub-place : goal.overflow_sub-place
+overflow_sub-place c =
     let p = c.requires.spellable in
     let w = c.args.walk.now in
     let i = c.loop-j.invariant in

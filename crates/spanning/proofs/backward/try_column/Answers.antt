@@ -5,8 +5,8 @@ use Rattle.elimination.proofs.Offsets.{rows_room}
 use Rattle.spanning.proofs.SpanningColumns.{written_moved, tried_skip, tried_keep}
 use Rattle.spanning.proofs.backward.try_column.Goals as goal
 
-pub keep-row-requires : goal.keep-row-requires
-keep-row-requires g c =
+pub keep_row-requires : goal.keep_row-requires
+keep_row-requires g c =
     let K = g.F.Field.field in let v = g.F.Field.value in
     let a = c.args in
     let t = a.table in

@@ -10,9 +10,9 @@ returns g c =
     let K = g.F.Field.field in let v = g.F.Field.value in
     let a = c.args in
     let xs = a.shelf.now in
-    let ws = c.copy-block-2.new.work in
+    let ws = c.copy_block-2.new.work in
     let one = copied_written K v c.copy_block.ensures.very_elements_copied (omega arith) (omega arith) in
-    let two = copied_written K v c.copy-block-2.ensures.very_elements_copied (omega arith) (omega arith) in
+    let two = copied_written K v c.copy_block-2.ensures.very_elements_copied (omega arith) (omega arith) in
     record {
       pair_row_of_empty_word =
           pair_made K (left_table K v xs a.both) (right_table K v xs a.both) [] (row_at K v ws a.to)

@@ -7,8 +7,8 @@ use Rattle.walk.specs.Pairs.{left_table, right_table}
 use Rattle.walk.proofs.PairRows.{pair_step, matrix_before}
 use Rattle.walk.proofs.pairs.step_row.Goals as goal
 
-pub row-times-matrix-requires : goal.row-times-matrix-requires
-row-times-matrix-requires g c =
+pub row_times_matrix-requires : goal.row_times_matrix-requires
+row_times_matrix-requires g c =
     let t = c.args.both.left in
     record {
       from_within = omega arith;
@@ -17,8 +17,8 @@ row-times-matrix-requires g c =
       matrix_within = omega (arith, matrix_before c.args.letter t.letters (t.states * t.states) (omega arith) (omega arith));
     }
 
-pub row-times-matrix-requires-2 : goal.row-times-matrix-requires-2
-row-times-matrix-requires-2 g c =
+pub row_times_matrix-requires-2 : goal.row_times_matrix-requires-2
+row_times_matrix-requires-2 g c =
     let t = c.args.both.right in
     record {
       from_within = omega arith;
@@ -34,11 +34,11 @@ returns g c =
     let xs = a.shelf.now in
     let ws = a.work.now in
     let ys = c.row_times_matrix.new.work in
-    let zs = c.row-times-matrix-2.new.work in
+    let zs = c.row_times_matrix-2.new.work in
     let n = a.both.left.states in
     let m = a.both.right.states in
     let one = c.row_times_matrix.ensures.row_written in
-    let two = c.row-times-matrix-2.ensures.row_written in
+    let two = c.row_times_matrix-2.ensures.row_written in
     record {
       pair_row_of_longer_word = λ u e.
           pair_step K (left_table K v xs a.both) (right_table K v xs a.both) u a.letter (row_at K v ws a.from) (row_at K v zs a.to) e

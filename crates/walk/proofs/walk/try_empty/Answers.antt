@@ -14,42 +14,42 @@ returns-in-Some g c =
           (c.in-Some.ensures.compares_weights [] c.start_row.ensures.pair_row_of_empty_word);
     }
 
-pub returns-in-default-keep-row : goal.returns-in-default-keep-row
-returns-in-default-keep-row g c =
+pub returns-in_default-keep_row : goal.returns-in_default-keep_row
+returns-in_default-keep_row g c =
     let K = g.F.Field.field in let v = g.F.Field.value in
     let a = c.args in
     let xs = a.shelf.now in
     let small : a.both.left.states + a.both.right.states ≤ 32 = omega arith in
     record {
       begun_or_found = passed_none K v (left_table K v xs a.both) (right_table K v xs a.both) small a.walk.now a.walk.now.pivots c.start_row.new.work c.keep_row.new.work c.requires.no_word
-          c.start_row.ensures.pair_row_of_empty_word c.in-default-keep-row.ensures.nothing_left_or_new_row;
+          c.start_row.ensures.pair_row_of_empty_word c.in_default-keep_row.ensures.nothing_left_or_new_row;
     }
 
-pub returns-in-Some-keep-row : goal.returns-in-Some-keep-row
-returns-in-Some-keep-row g c =
+pub returns-in-Some-keep_row : goal.returns-in-Some-keep_row
+returns-in-Some-keep_row g c =
     let K = g.F.Field.field in let v = g.F.Field.value in
     let a = c.args in
     let xs = a.shelf.now in
     let w = a.walk.now in
     let small : a.both.left.states + a.both.right.states ≤ 32 = omega arith in
     let e = c.start_row.ensures.pair_row_of_empty_word in
-    let new = c.in-Some-keep-row.ensures in
+    let new = c.in-Some-keep_row.ensures in
     record {
-      begun_or_found = passed_first K v (left_table K v xs a.both) (right_table K v xs a.both) small c.in-Some-keep-row.pivot w c.note.new.self c.start_row.new.work c.keep_row.new.work c.requires.no_word
-          e (c.in-default.ensures.compares_weights [] e) new.nothing_left_or_new_row new.all_else_unchanged c.note.ensures.noted;
+      begun_or_found = passed_first K v (left_table K v xs a.both) (right_table K v xs a.both) small c.in-Some-keep_row.pivot w c.note.new.self c.start_row.new.work c.keep_row.new.work c.requires.no_word
+          e (c.in_default.ensures.compares_weights [] e) new.nothing_left_or_new_row new.all_else_unchanged c.note.ensures.noted;
     }
 
-pub overflow-add-d : goal.overflow-add-d
-overflow-add-d g c = omega arith
+pub overflow_add-d : goal.overflow_add-d
+overflow_add-d g c = omega arith
 
-pub start-row-requires : goal.start-row-requires
-start-row-requires g c = record { tables_lie = c.requires.tables_lie; to_within = omega arith }
+pub start_row-requires : goal.start_row-requires
+start_row-requires g c = record { tables_lie = c.requires.tables_lie; to_within = omega arith }
 
 pub difference-requires : goal.difference-requires
 difference-requires g c = record { tables_lie = c.requires.tables_lie; row_within = omega arith }
 
-pub keep-row-requires : goal.keep-row-requires
-keep-row-requires g c = record {
+pub keep_row-requires : goal.keep_row-requires
+keep_row-requires g c = record {
   small = (omega arith, omega arith);
   from_within = omega arith;
   rows_within = omega arith;

@@ -6,8 +6,8 @@ use Rattle.elimination.proofs.Offsets.{rows_room, row_before}
 use Rattle.walk.proofs.WalkSteps.{ready_skip, ready_keep}
 use Rattle.walk.proofs.walk.try_letter.Goals as goal
 
-pub step-row-requires : goal.step-row-requires
-step-row-requires g c =
+pub step_row-requires : goal.step_row-requires
+step_row-requires g c =
     let a = c.args in
     let d = a.both.left.states + a.both.right.states in
     let r = c.requires.ready in
@@ -30,8 +30,8 @@ difference-requires g c =
     let room = rows_room a.walk.now.count d c.requires.ready.few small in
     record { tables_lie = c.requires.tables_lie; row_within = omega arith }
 
-pub keep-row-requires : goal.keep-row-requires
-keep-row-requires g c =
+pub keep_row-requires : goal.keep_row-requires
+keep_row-requires g c =
     let K = g.F.Field.field in let v = g.F.Field.value in
     let a = c.args in
     let xs = a.shelf.now in
@@ -69,22 +69,22 @@ returns-in-Some g c =
       };
     }
 
-pub returns-in-default-keep-row : goal.returns-in-default-keep-row
-returns-in-default-keep-row g c =
+pub returns-in_default-keep_row : goal.returns-in_default-keep_row
+returns-in_default-keep_row g c =
     let K = g.F.Field.field in let v = g.F.Field.value in
     let a = c.args in
     let xs = a.shelf.now in
     let r = c.requires.ready in
     let small : a.both.left.states + a.both.right.states ≤ 32 = omega arith in
     let e = c.step_row.ensures.pair_row_of_longer_word (r.words a.i) (r.held.rows a.i r.inside) in
-    let left = c.in-default-keep-row.ensures in
+    let left = c.in_default-keep_row.ensures in
     record {
       next_letter_or_found = ready_skip K v (left_table K v xs a.both) (right_table K v xs a.both) small a.i a.letter a.walk.now a.work.now c.step_row.new.work c.keep_row.new.work r
           c.step_row.ensures.all_else_unchanged e left.nothing_left_or_new_row left.all_else_unchanged;
     }
 
-pub returns-in-Some-keep-row : goal.returns-in-Some-keep-row
-returns-in-Some-keep-row g c =
+pub returns-in-Some-keep_row : goal.returns-in-Some-keep_row
+returns-in-Some-keep_row g c =
     let K = g.F.Field.field in let v = g.F.Field.value in
     let a = c.args in
     let xs = a.shelf.now in
@@ -94,10 +94,10 @@ returns-in-Some-keep-row g c =
     let d = a.both.left.states + a.both.right.states in
     let small : d ≤ 32 = omega arith in
     let e = c.step_row.ensures.pair_row_of_longer_word (r.words a.i) (r.held.rows a.i r.inside) in
-    let new = c.in-Some-keep-row.ensures in
+    let new = c.in-Some-keep_row.ensures in
     let room : w.count < d = new.nothing_left_or_new_row.room in
     record {
-      next_letter_or_found = ready_keep K v (left_table K v xs a.both) (right_table K v xs a.both) small a.i a.letter c.in-Some-keep-row.pivot w c.note.new.self a.work.now c.step_row.new.work c.keep_row.new.work r
+      next_letter_or_found = ready_keep K v (left_table K v xs a.both) (right_table K v xs a.both) small a.i a.letter c.in-Some-keep_row.pivot w c.note.new.self a.work.now c.step_row.new.work c.keep_row.new.work r
           c.requires.letter_of_tables.0 c.requires.letter_of_tables.1
-          c.step_row.ensures.all_else_unchanged e (c.in-default.ensures.compares_weights x e) new.nothing_left_or_new_row new.all_else_unchanged c.note.ensures.noted;
+          c.step_row.ensures.all_else_unchanged e (c.in_default.ensures.compares_weights x e) new.nothing_left_or_new_row new.all_else_unchanged c.note.ensures.noted;
     }
