@@ -1,6 +1,6 @@
 -- Reported words. Assumes nothing.
 use Rattle.std.proofs.Common.{◌≡◌, ℕ, ◌+◌, ◌-◌, ◌<◌, List, [], ◌∷◌, ◌++◌, length, get_or, take, drop, set, replicate, sym, ap, ◌∙◌, subst, append_assoc, arith, length-append, take_at, drop_at}
-use Rattle.std.proofs.lemmas.List.{drop_set, drop-replicate}
+use Rattle.std.proofs.lemmas.List.{drop-set, drop-replicate}
 use Rattle.field.specs.FiniteField.{FiniteField}
 use Rattle.series.specs.Tables.{Table}
 use Rattle.series.specs.Words.{Word}
@@ -28,12 +28,12 @@ linked_longer count words qs ls l j z b = ap length (l.links j z b) ∙ length-a
 -- the last letter is written, and zeros stand behind it
 pub last_written : (u : Word) (a place : ℕ) → place < 31 → u ++ drop place (set (replicate 31 0) place a) ≡ (u ++ a ∷ []) ++ replicate (31 - (place + 1)) 0
 last_written u a place l =
-    ap (λ q. u ++ q) (drop_set (replicate 31 0) place a l ∙ ap (λ q. a ∷ q) (drop-replicate (place + 1) 31 0))
+    ap (λ q. u ++ q) (drop-set (replicate 31 0) place a l ∙ ap (λ q. a ∷ q) (drop-replicate (place + 1) 31 0))
     ∙ sym (append_assoc u (a ∷ []) (replicate (31 - (place + 1)) 0))
 
 -- one letter more is written before those that are
 pub letter_written : (u : Word) (a place : ℕ) (xs w : List ℕ) → place < length xs → (u ++ a ∷ []) ++ drop (place + 1) xs ≡ w → u ++ drop place (set xs place a) ≡ w
-letter_written u a place xs w l e = ap (λ q. u ++ q) (drop_set xs place a l) ∙ sym (append_assoc u (a ∷ []) (drop (place + 1) xs)) ∙ e
+letter_written u a place xs w l e = ap (λ q. u ++ q) (drop-set xs place a l) ∙ sym (append_assoc u (a ∷ []) (drop (place + 1) xs)) ∙ e
 
 -- a least difference that is reported
 pub reported : {V : Type 0} (K : FiniteField V) (S T : Table V) (r : ReportedWord) (w : Word) (tried left right : ℕ) → Spells r w → FirstDifference K S T w tried left right → Reported K S T r tried left right

@@ -19,7 +19,7 @@ loop-i-preserved c =
 pub invariant_of-result : goal.invariant_of-result
 invariant_of-result c =
     let e : c.loop-i.r ≡ inverse_of c.args.self.n = sym (power_ends c.loop-i._i c.loop-i.r c.loop-i.s c.loop-i-test.false) ∙ c.loop-i.invariant in
-    (omega (arith, inverse_lt c.args.self.n), tt)
+    record { below = omega (arith, inverse_lt c.args.self.n) }
 
 pub returns : goal.returns
 returns c =

@@ -1,7 +1,7 @@
 use Rattle.std.proofs.Common.{◌<◌, length, sym, refl, ◌∙◌, subst, inl, inr, ⊎_elim, add-zero, arith}
 use Rattle.columns.proofs.Begun.{Sofar, sofar_none, space_more, digit_more, past_first, broken, held}
 use Rattle.columns.proofs.column.columns.Goals as goal
-use Rattle.columns.proofs.column.columns.Goals.{in_default-via-in-32+then-value-eq0+else-i-lt-LAST, in_default-via-in-32+else-value-eq0, in_default-via-in-48+else-i-eq-LAST, in_default-via-in_default·+then-b-lt48, in_default-via-in-49-to-57+else-i-gt0, in_default-via-in_default·+else-b-lt48+else-b-lt58, in-32, in-48, in-49-to-57}
+use Rattle.columns.proofs.column.columns.Goals.{in_default-via-in-32+then-value-eq0+else-i-lt-LAST, in_default-via-in-32+else-value-eq0, in_default-via-in-48+else-i-eq-LAST, in_default-via-in_default+then-b-lt48, in_default-via-in-49-to-57+else-i-gt0, in_default-via-in_default+else-b-lt48+else-b-lt58, in-32, in-48, in-49-to-57}
 
 pub loop-i-init : goal.loop-i-init
 loop-i-init c = sofar_none _
@@ -12,8 +12,8 @@ returns-in_default c = record {
     c.loop-i.i,
     refl,
     broken _ _ _ c.loop-i.invariant (omega arith) (omega arith)
-        (λ b z h. elim c.in_default.branch [ in_default-via-in-32+then-value-eq0+else-i-lt-LAST w ↦ omega arith | in_default-via-in-32+else-value-eq0 w ↦ omega arith | in_default-via-in-48+else-i-eq-LAST w ↦ omega arith | in_default-via-in_default·+then-b-lt48 w ↦ omega arith | in_default-via-in-49-to-57+else-i-gt0 w ↦ omega arith | in_default-via-in_default·+else-b-lt48+else-b-lt58 w ↦ omega arith ])
-        (λ d l b some first. elim c.in_default.branch [ in_default-via-in-32+then-value-eq0+else-i-lt-LAST w ↦ omega arith | in_default-via-in-32+else-value-eq0 w ↦ omega arith | in_default-via-in-48+else-i-eq-LAST w ↦ omega arith | in_default-via-in_default·+then-b-lt48 w ↦ omega arith | in_default-via-in-49-to-57+else-i-gt0 w ↦ omega arith | in_default-via-in_default·+else-b-lt48+else-b-lt58 w ↦ omega arith ]),
+        (λ b z h. elim c.in_default.branch [ in_default-via-in-32+then-value-eq0+else-i-lt-LAST w ↦ omega arith | in_default-via-in-32+else-value-eq0 w ↦ omega arith | in_default-via-in-48+else-i-eq-LAST w ↦ omega arith | in_default-via-in_default+then-b-lt48 w ↦ omega arith | in_default-via-in-49-to-57+else-i-gt0 w ↦ omega arith | in_default-via-in_default+else-b-lt48+else-b-lt58 w ↦ omega arith ])
+        (λ d l b some first. elim c.in_default.branch [ in_default-via-in-32+then-value-eq0+else-i-lt-LAST w ↦ omega arith | in_default-via-in-32+else-value-eq0 w ↦ omega arith | in_default-via-in-48+else-i-eq-LAST w ↦ omega arith | in_default-via-in_default+then-b-lt48 w ↦ omega arith | in_default-via-in-49-to-57+else-i-gt0 w ↦ omega arith | in_default-via-in_default+else-b-lt48+else-b-lt58 w ↦ omega arith ]),
   );
 }
 
