@@ -5,7 +5,7 @@ ghost use Rattle.std.specs.Prelude.{◌≡◌, ℕ, ◌<◌, ◌≤◌};
 ghost use Rattle.field.specs.Below.{Below};
 ghost use Rattle.residue.specs.Prime.{Prime};
 ghost use Rattle.residue.specs.Residues.{residues};
-ghost use Rattle.residue.specs.Delivered.{prime_2, prime_65537};
+ghost use Rattle.residue.specs.Primality.{prime_by};
 
 use field::Field;
 
@@ -21,11 +21,11 @@ pub trait PrimeModulus<const P: u32> {
 }
 
 impl PrimeModulus<2> for Residue<2> {
-    ghost prime = { prime_2 };
+    ghost prime = { prime_by 2 2 tt tt tt tt tt };
 }
 
 impl PrimeModulus<65537> for Residue<65537> {
-    ghost prime = { prime_65537 };
+    ghost prime = { prime_by 65537 257 tt tt tt tt tt };
 }
 
 /// A number below P. The field is private, so no other number can be made an element.

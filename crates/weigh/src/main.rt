@@ -1,8 +1,6 @@
 //! Weighs words under the table in the file `table` of the current folder, a column text over GF(65537): reads a word
 //! from each line of standard input, its letters as digits, and prints it with the code of its weight, or with the first
 //! letter that the table lacks.
-#![tactic(auto)]
-
 ghost use Rattle.std.specs.Prelude.{◌≡◌, ◌+◌, ◌≤◌, map, length, IfOk, MatchResult};
 ghost use Rattle.series.specs.Tables.{weight};
 ghost use Rattle.rows.specs.Tables.{Lies, table_of};
@@ -10,9 +8,7 @@ ghost use Rattle.rows.specs.Weighing.{FirstOutside};
 ghost use Rattle.weigh.specs.Letters.{letter};
 
 use anyhow::anyhow;
-use book::refusal::Refusal;
-use command::reasons::reason;
-use faults::LoadFault;
+use faults::{LineFault, LoadFault};
 use field::Field;
 use residue::Fermat;
 use rows::layout::TableAt;
@@ -64,11 +60,22 @@ fn shown(line: &[u8], position: usize) -> char {
     }
 }
 
+// Why a text is refused, for a person.
+fn reason(fault: &LoadFault) -> &'static str {
+    match fault {
+        LoadFault::Line(LineFault::Column(_)) => "this byte cannot stand in its column",
+        LoadFault::Line(LineFault::Ends(_)) => "the text ends where a byte is due",
+        LoadFault::Line(LineFault::Unexpected(_)) => "another kind of line is due",
+        LoadFault::Line(LineFault::Unended(_)) => "the line should end here",
+        LoadFault::Value(_) => "this number is not the one due, or not within its limits",
+        LoadFault::Beyond(_) => "nothing may follow the last line",
+    }
+}
+
 // Tells where and why the table is refused.
-fn refuse(rt: &HostRuntime, fault: LoadFault) -> anyhow::Result<()> {
+fn refuse(rt: &HostRuntime, fault: &LoadFault) -> anyhow::Result<()> {
     let (line, column) = fault.position();
-    let reason = reason(&Refusal::Unreadable(fault));
-    eprintln!(rt; "table: line {line}, column {column}: {reason}")?;
+    eprintln!(rt; "table: line {line}, column {column}: {}", reason(fault))?;
     Err(anyhow!("the table is refused"))
 }
 
@@ -77,7 +84,7 @@ fn main(rt: HostRuntime) -> anyhow::Result<()> {
     let mut memory = [Fermat::zero(); 1568];
     let shape = match read_table(text.as_slice(), &mut memory) {
         Ok(shape) => shape,
-        Err(fault) => return refuse(&rt, fault),
+        Err(fault) => return refuse(&rt, &fault),
     };
     let table = TableAt {
         base: 0,

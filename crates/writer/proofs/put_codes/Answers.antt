@@ -5,8 +5,8 @@ use Rattle.text.proofs.Joins.{cut_length}
 use Rattle.writer.proofs.Puts.{code_small, code_read, length_codes_of, numbers_next, numbers_done}
 use Rattle.writer.proofs.put_codes.Goals as goal
 
-pub put-number-requires : goal.put-number-requires
-put-number-requires g c =
+pub put_number-requires : goal.put_number-requires
+put_number-requires g c =
     let K = g.F.Field.field in
     let value = g.F.Field.value in
     record {

@@ -9,20 +9,20 @@ use Rattle.writer.proofs.put_matrices.Goals as goal
 pub loop-j-init : goal.loop-j-init
 loop-j-init g c = lines_none c.args.n (24 + 11 * c.args.n) c.args.out.now (codes_of g.F.Field.field g.F.Field.value c.args.elements.now)
 
-pub offset-bounds-elements-j : goal.offset-bounds-elements-j
-offset-bounds-elements-j g c =
+pub offset_bounds-elements-j : goal.offset_bounds-elements-j
+offset_bounds-elements-j g c =
     let h = rows_fit c.loop-j.j c.args.count c.args.n c.loop-j-test.true in
     let inside : c.loop-j.j * c.args.n ≤ length c.args.elements.now = omega (arith, c.requires.all) in
     search rules
 
-pub slice-bounds-put-matrix-line-end : goal.slice-bounds-put-matrix-line-end
-slice-bounds-put-matrix-line-end g c = let h = rows_fit c.loop-j.j c.args.count (24 + 11 * c.args.n) c.loop-j-test.true in omega (arith, c.requires.room)
+pub slice_bounds-put_matrix_line-end : goal.slice_bounds-put_matrix_line-end
+slice_bounds-put_matrix_line-end g c = let h = rows_fit c.loop-j.j c.args.count (24 + 11 * c.args.n) c.loop-j-test.true in omega (arith, c.requires.room)
 
-pub slice-bounds-put-matrix-line-end-in-loop-j : goal.slice-bounds-put-matrix-line-end-in-loop-j
-slice-bounds-put-matrix-line-end-in-loop-j g c = let h = rows_fit c.loop-j.j c.args.count c.args.n c.loop-j-test.true in omega (arith, c.requires.all)
+pub slice_bounds-put_matrix_line-end-in-loop-j : goal.slice_bounds-put_matrix_line-end-in-loop-j
+slice_bounds-put_matrix_line-end-in-loop-j g c = let h = rows_fit c.loop-j.j c.args.count c.args.n c.loop-j-test.true in omega (arith, c.requires.all)
 
-pub put-matrix-line-requires : goal.put-matrix-line-requires
-put-matrix-line-requires g c =
+pub put_matrix_line-requires : goal.put_matrix_line-requires
+put_matrix_line-requires g c =
     let h = rows_fit c.loop-j.j c.args.count (24 + 11 * c.args.n) c.loop-j-test.true in
     let k = rows_fit c.loop-j.j c.args.count c.args.n c.loop-j-test.true in
     let a = part_length (c.loop-j.j * (24 + 11 * c.args.n)) (24 + 11 * c.args.n) c.loop-j.out (omega (arith, c.requires.room)) in

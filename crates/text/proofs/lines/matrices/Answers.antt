@@ -12,17 +12,17 @@ use Rattle.text.proofs.lines.matrices.Goals as goal
 pub loop-j-init : goal.loop-j-init
 loop-j-init g c = (lined_none _ _ _ _ c.requires.able.within c.requires.starts, let z : c.args.count ≡ c.args.count - 0 = omega arith in c.requires.row_due ∙ ap row_due z)
 
-pub offset-bounds-elements-j : goal.offset-bounds-elements-j
-offset-bounds-elements-j g c =
+pub offset_bounds-elements-j : goal.offset_bounds-elements-j
+offset_bounds-elements-j g c =
     let h = rows_fit c.loop-j.j c.args.count c.args.n c.loop-j-test.true in
     let inside : c.loop-j.j * c.args.n ≤ length c.loop-j.elements = omega (arith, c.requires.room) in
     search rules
 
-pub slice-bounds-matrix-line-end : goal.slice-bounds-matrix-line-end
-slice-bounds-matrix-line-end g c = let h = rows_fit c.loop-j.j c.args.count c.args.n c.loop-j-test.true in omega (arith, c.requires.room)
+pub slice_bounds-matrix_line-end : goal.slice_bounds-matrix_line-end
+slice_bounds-matrix_line-end g c = let h = rows_fit c.loop-j.j c.args.count c.args.n c.loop-j-test.true in omega (arith, c.requires.room)
 
-pub matrix-line-requires : goal.matrix-line-requires
-matrix-line-requires g c =
+pub matrix_line-requires : goal.matrix_line-requires
+matrix_line-requires g c =
     let at = c.loop-j.invariant.0.went.position in
     let line = ap (λ p. p.line) at in
     let column = ap (λ p. p.column) at in
@@ -34,10 +34,10 @@ matrix-line-requires g c =
       few = omega (arith, c.requires.states);
     }
 
-pub returns-in-err-then : goal.returns-in-err-then
-returns-in-err-then g c =
+pub returns-in_err-then : goal.returns-in_err-then
+returns-in_err-then g c =
     let K = g.F.Field.field in
-    let p = err_from_is_err_and c.from-residual.result c.from-residual.ensures.1 in
+    let p = err_from_is_err_and c.from_residual.result c.from_residual.ensures.1 in
     let h = rows_fit c.loop-j.j c.args.count c.args.n c.loop-j-test.true in
     let long = part_length (c.loop-j.j * c.args.n) c.args.n c.loop-j.elements (omega (arith, c.requires.room)) in
     let is_row = ap due_letter (c.loop-j.invariant.1 ∙ row_due_some (c.args.count - c.loop-j.j) (omega arith)) in
@@ -45,7 +45,7 @@ returns-in-err-then g c =
     (record {
       lines_or_stops =
           lined_stops c.args.n (K.q - 1) (high_small K g.F.Field.value) _ c.loop-j.reader _ c.loop-j.j c.args.count _ c.requires.starts c.loop-j-test.true c.loop-j.invariant.0
-          (part_stops (due_letter c.loop-j.then) c.loop-j.j c.args.n _ (K.q - 1) _ _ _ is_row long c.in-err-then.ensures.line_or_stops);
+          (part_stops (due_letter c.loop-j.then) c.loop-j.j c.args.n _ (K.q - 1) _ _ _ is_row long c.in_err-then.ensures.line_or_stops);
     })
 
 pub loop-j-preserved : goal.loop-j-preserved
@@ -55,7 +55,7 @@ loop-j-preserved g c =
     let h = rows_fit c.loop-j.j c.args.count c.args.n c.loop-j-test.true in
     let long = part_length (c.loop-j.j * c.args.n) c.args.n c.loop-j.elements (omega (arith, c.requires.room)) in
     let is_row = ap due_letter (c.loop-j.invariant.1 ∙ row_due_some (c.args.count - c.loop-j.j) (omega arith)) in
-    let read = c.in-ok-then.ensures.line_or_stops in (
+    let read = c.in_ok-then.ensures.line_or_stops in (
       lined_next K value c.args.n c.loop-j.elements c.matrix_line.new.elements c.loop-j.j _ (omega (arith, c.requires.few)) (omega (arith, c.requires.room)) (c.matrix_line.auto.elements ∙ long) _ c.loop-j.reader c.matrix_line.new.reader (due_letter c.loop-j.then) is_row c.loop-j.invariant.0 read.0,
       row_due_next c.loop-j.then _ c.loop-j.j c.args.count c.loop-j-test.true c.loop-j.invariant.1 read.1,
     )

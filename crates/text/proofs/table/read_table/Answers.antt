@@ -8,59 +8,59 @@ use Rattle.text.proofs.Limits.{block_fits}
 use Rattle.text.proofs.Verdicts.{frame_none, frame_front, first_refuses, body_refuses, accepts, past_refuses}
 use Rattle.text.proofs.table.read_table.Goals as goal
 
-pub slice-bounds-body-end : goal.slice-bounds-body-end
-slice-bounds-body-end g c = let h = block_fits c.in-ok-shape.shape.states c.in-ok-shape.shape.letters c.in-ok-shape.ensures.shape_or_stops.0 in omega (arith, c.requires.room)
+pub slice_bounds-body-end : goal.slice_bounds-body-end
+slice_bounds-body-end g c = let h = block_fits c.in_ok-shape.shape.states c.in_ok-shape.shape.letters c.in_ok-shape.ensures.shape_or_stops.0 in omega (arith, c.requires.room)
 
-pub returns-in-err-shape : goal.returns-in-err-shape
-returns-in-err-shape g c =
+pub returns-in_err-shape : goal.returns-in_err-shape
+returns-in_err-shape g c =
     let K = g.F.Field.field in
-    let p = err_from_is_err_and c.from-residual.result c.from-residual.ensures.1 in
+    let p = err_from_is_err_and c.from_residual.result c.from_residual.ensures.1 in
     let text = c.args.text.now in
-    let refused = first_refuses K g.F.Field.value text c.new-reader.result c.new-reader.ensures.at_the_start _ c.in-err-shape.ensures.shape_or_stops in
+    let refused = first_refuses K g.F.Field.value text c.new-reader.result c.new-reader.ensures.at_the_start _ c.in_err-shape.ensures.shape_or_stops in
     rw (p.1, p.2) (record { accepted_or_refused = refused; refused_has_no_table = λ e T s t. (decided K text).0 T _ s t refused; table_alone_written = frame_none 1568 c.args.work.now })
 
-pub returns-in-err-body : goal.returns-in-err-body
-returns-in-err-body g c =
+pub returns-in_err-body : goal.returns-in_err-body
+returns-in_err-body g c =
     let K = g.F.Field.field in
-    let p = err_from_is_err_and c.from-residual-in-err-body.result c.from-residual-in-err-body.ensures.1 in
+    let p = err_from_is_err_and c.from_residual-in_err-body.result c.from_residual-in_err-body.ensures.1 in
     let text = c.args.text.now in
-    let got = c.in-ok-shape.ensures.shape_or_stops in
-    let n = c.in-ok-shape.shape.states in
-    let k = c.in-ok-shape.shape.letters in
+    let got = c.in_ok-shape.ensures.shape_or_stops in
+    let n = c.in_ok-shape.shape.states in
+    let k = c.in_ok-shape.shape.letters in
     let h = block_fits n k got.0 in
     let long : length c.body.new.elements ≡ table_size n k = c.body.auto.elements ∙ cut_length 0 (table_size n k) (table_size n k) c.args.work.now (omega arith) (omega (arith, c.requires.room)) in
-    let refused = body_refuses K g.F.Field.value text c.new-reader.result c.new-reader.ensures.at_the_start c.table_line.new.reader n k got.0 got.1 _ c.in-err-body.ensures.lines_or_stops in
+    let refused = body_refuses K g.F.Field.value text c.new-reader.result c.new-reader.ensures.at_the_start c.table_line.new.reader n k got.0 got.1 _ c.in_err-body.ensures.lines_or_stops in
     rw (p.1, p.2) (record { accepted_or_refused = refused; refused_has_no_table = λ e T s t. (decided K text).0 T _ s t refused; table_alone_written = frame_front (table_size n k) 1568 c.args.work.now c.body.new.elements long h c.requires.room })
 
-pub returns-in-err-finish : goal.returns-in-err-finish
-returns-in-err-finish g c =
+pub returns-in_err-finish : goal.returns-in_err-finish
+returns-in_err-finish g c =
     let K = g.F.Field.field in
-    let p = err_from_is_err_and c.from-residual-in-err-finish.result c.from-residual-in-err-finish.ensures.1 in
+    let p = err_from_is_err_and c.from_residual-in_err-finish.result c.from_residual-in_err-finish.ensures.1 in
     let text = c.args.text.now in
-    let got = c.in-ok-shape.ensures.shape_or_stops in
-    let n = c.in-ok-shape.shape.states in
-    let k = c.in-ok-shape.shape.letters in
+    let got = c.in_ok-shape.ensures.shape_or_stops in
+    let n = c.in_ok-shape.shape.states in
+    let k = c.in_ok-shape.shape.letters in
     let h = block_fits n k got.0 in
     let work = c.args.work.now in
     let ys = c.body.new.elements in
     let long : length ys ≡ table_size n k = c.body.auto.elements ∙ cut_length 0 (table_size n k) (table_size n k) work (omega arith) (omega (arith, c.requires.room)) in
-    let more = c.in-err-finish.ensures.over_or_beyond in
-    let refused = past_refuses K g.F.Field.value text c.new-reader.result c.new-reader.ensures.at_the_start c.table_line.new.reader n k got.0 got.1 c.body.new.reader (table_size n k - 0) work ys long c.in-ok-body.ensures.lines_or_stops more.0 in
+    let more = c.in_err-finish.ensures.over_or_beyond in
+    let refused = past_refuses K g.F.Field.value text c.new-reader.result c.new-reader.ensures.at_the_start c.table_line.new.reader n k got.0 got.1 c.body.new.reader (table_size n k - 0) work ys long c.in_ok-body.ensures.lines_or_stops more.0 in
     let said = subst (Refuses K text) (sym more.1) refused in
     rw (p.1, p.2) (record { accepted_or_refused = said; refused_has_no_table = λ e T s t. (decided K text).0 T _ s t said; table_alone_written = frame_front (table_size n k) 1568 work ys long h c.requires.room })
 
 pub returns : goal.returns
 returns g c =
     let K = g.F.Field.field in
-    let got = c.in-ok-shape.ensures.shape_or_stops in
-    let n = c.in-ok-shape.shape.states in
-    let k = c.in-ok-shape.shape.letters in
+    let got = c.in_ok-shape.ensures.shape_or_stops in
+    let n = c.in_ok-shape.shape.states in
+    let k = c.in_ok-shape.shape.letters in
     let h = block_fits n k got.0 in
     let work = c.args.work.now in
     let ys = c.body.new.elements in
     let long : length ys ≡ table_size n k = c.body.auto.elements ∙ cut_length 0 (table_size n k) (table_size n k) work (omega arith) (omega (arith, c.requires.room)) in
     record {
-      accepted_or_refused = accepts K g.F.Field.value c.args.text.now c.new-reader.result c.new-reader.ensures.at_the_start c.table_line.new.reader n k got.0 got.1 c.body.new.reader (table_size n k - 0) work ys long c.in-ok-body.ensures.lines_or_stops c.in-ok-finish.ensures.over_or_beyond;
+      accepted_or_refused = accepts K g.F.Field.value c.args.text.now c.new-reader.result c.new-reader.ensures.at_the_start c.table_line.new.reader n k got.0 got.1 c.body.new.reader (table_size n k - 0) work ys long c.in_ok-body.ensures.lines_or_stops c.in_ok-finish.ensures.over_or_beyond;
       refused_has_no_table = λ e T s t. let z : ◌≡◌ {A = ℕ} 0 1 = cc in omega arith;
       table_alone_written = frame_front (table_size n k) (table_size n k) work ys long (omega arith) (omega (arith, c.requires.room));
     }
