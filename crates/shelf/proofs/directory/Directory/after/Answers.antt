@@ -12,8 +12,8 @@ use Rattle.shelf.proofs.directory.Directory.after.Goals as goal
 
 pub after-requires : goal.after-requires
 after-requires g c =
-    let f = c.in-ok-table.ensures.found in
-    record { table_lies = f.0.lies; letter_of_table = (c.if-a-lt1.false, c.if-a-table.false); room = front_room (length c.args.shelf.now) (length c.args.work.now) c.in-ok-table.table f.0.lies f.1.working }
+    let f = c.in_ok-table.ensures.found in
+    record { table_lies = f.0.lies; letter_of_table = (c.if-a-lt1.false, c.if-a-table.false); room = front_room (length c.args.shelf.now) (length c.args.work.now) c.in_ok-table.table f.0.lies f.1.working }
 
 pub returns-then-a-lt1 : goal.returns-then-a-lt1
 returns-then-a-lt1 g c =
@@ -21,12 +21,12 @@ returns-then-a-lt1 g c =
     let v = g.F.Field.value in
     let es = c.args.self.now.entries in
     let mem = c.args.shelf.now in
-    let t = c.in-ok-table.table in
-    let e = ap letters_of c.in-ok-table.ensures.found.0.told in
+    let t = c.in_ok-table.table in
+    let e = ap letters_of c.in_ok-table.ensures.found.0.told in
     record {
       does = λ out w. (
         after_refuses K (state es mem (length c.args.work.now) out w) c.args.place c.args.letter c.args.to
-            (c.in-ok-table.ensures.checked (after c.args.place c.args.letter c.args.to) out w (makes_of_one (after c.args.place c.args.letter c.args.to) c.args.place c.args.to refl refl refl))
+            (c.in_ok-table.ensures.checked (after c.args.place c.args.letter c.args.to) out w (makes_of_one (after c.args.place c.args.letter c.args.to) c.args.place c.args.to refl refl refl))
             (λ l. elim c.then-a-lt1.either [ inl h ↦ omega (arith, l.0) | inr h ↦ omega (arith, l.1, h.1, e) ]),
         refl,
       );
@@ -38,18 +38,18 @@ returns g c =
     let v = g.F.Field.value in
     let es = c.args.self.now.entries in
     let mem = c.args.shelf.now in
-    let t = c.in-ok-table.table in
-    let e = ap letters_of c.in-ok-table.ensures.found.0.told in
+    let t = c.in_ok-table.table in
+    let e = ap letters_of c.in_ok-table.ensures.found.0.told in
     record {
       does = λ out w. (
         after_accepts K (state es mem (length c.args.work.now) out w) c.args.place c.args.letter c.args.to
-            (c.in-ok-table.ensures.checked (after c.args.place c.args.letter c.args.to) out w (makes_of_one (after c.args.place c.args.letter c.args.to) c.args.place c.args.to refl refl refl))
+            (c.in_ok-table.ensures.checked (after c.args.place c.args.letter c.args.to) out w (makes_of_one (after c.args.place c.args.letter c.args.to) c.args.place c.args.to refl refl refl))
             c.if-a-lt1.false (subst (λ k. c.args.letter ≤ k) (sym e) c.if-a-table.false),
         (
           refl,
           made K v es c.keep.new.self.entries mem c.keep.new.shelf c.args.work.now c.after.new.work c.args.to t.states t.letters
               (after_table K c.args.letter (table_of K v mem t)) (after_table K c.args.letter (table K v (shelf_of es mem) c.args.place))
-              c.after.ensures.after_written.same (ap (after_table K c.args.letter) (table_found K v es mem (length mem) c.args.place t c.in-ok-table.ensures.found.0))
+              c.after.ensures.after_written.same (ap (after_table K c.args.letter) (table_found K v es mem (length mem) c.args.place t c.in_ok-table.ensures.found.0))
               c.keep.ensures.kept c.after.auto.work out w,
         ),
       );

@@ -11,11 +11,11 @@ use Rattle.shelf.proofs.Late.{compare_accepts}
 use Rattle.shelf.proofs.Verdicts.{says}
 use Rattle.shelf.proofs.directory.Directory.compare.Goals as goal
 
-pub returns-in-err-both : goal.returns-in-err-both
-returns-in-err-both g c = record {
+pub returns-in_err-both : goal.returns-in_err-both
+returns-in_err-both g c = record {
   does = λ out.
-      refused g.F.Field.field g.F.Field.value (state c.args.self.now.entries c.args.shelf.now (length c.args.work.now) out c.args.verdict.now) (compare c.args.first c.args.second) (λ _. Told c.args.verdict.now) (err_from_is_err_and c.from-residual.result c.from-residual.ensures.1)
-      (c.in-err-both.ensures.checked (compare c.args.first c.args.second) out c.args.verdict.now (of_compare c.args.first c.args.second));
+      refused g.F.Field.field g.F.Field.value (state c.args.self.now.entries c.args.shelf.now (length c.args.work.now) out c.args.verdict.now) (compare c.args.first c.args.second) (λ _. Told c.args.verdict.now) (err_from_is_err_and c.from_residual.result c.from_residual.ensures.1)
+      (c.in_err-both.ensures.checked (compare c.args.first c.args.second) out c.args.verdict.now (of_compare c.args.first c.args.second));
 }
 
 pub returns : goal.returns
@@ -24,16 +24,16 @@ returns g c =
     let v = g.F.Field.value in
     let es = c.args.self.now.entries in
     let mem = c.args.shelf.now in
-    let l = c.in-ok-both.both.left in
-    let r = c.in-ok-both.both.right in
-    let f = c.in-ok-both.ensures.found in
+    let l = c.in_ok-both.both.left in
+    let r = c.in_ok-both.both.right in
+    let f = c.in_ok-both.ensures.found in
     let told : c.verdict_of.result ≡ verdict_on c.compare-found.result = c.verdict_of.ensures.tells in
     let here : Says K (table_of K v mem l) (table_of K v mem r) c.verdict_of.result =
     subst (Says K (table_of K v mem l) (table_of K v mem r)) (sym told) (says K (table_of K v mem l) (table_of K v mem r) c.compare-found.result (ap (λ z. length z.letters) (sym told) ∙ c.verdict_of.ensures.letters_31) c.compare-found.ensures.answer) in
     record {
       does = λ out. (
         compare_accepts K (state es mem (length c.args.work.now) out c.args.verdict.now) c.args.first c.args.second
-            (c.in-ok-both.ensures.checked (compare c.args.first c.args.second) out c.args.verdict.now (of_compare c.args.first c.args.second)),
+            (c.in_ok-both.ensures.checked (compare c.args.first c.args.second) out c.args.verdict.now (of_compare c.args.first c.args.second)),
         (
           c.verdict_of.result,
           subst₂ (λ S T. Says K S T c.verdict_of.result) (table_found K v es mem (length mem) c.args.first l f.left) (table_found K v es mem (length mem) c.args.second r f.right) here,

@@ -10,26 +10,26 @@ use Rattle.shelf.proofs.Made.{same_refl, made, refused}
 use Rattle.shelf.proofs.Late.{load_accepts, load_refuses}
 use Rattle.shelf.proofs.directory.Directory.load.Goals as goal
 
-pub returns-in-err-within : goal.returns-in-err-within
-returns-in-err-within g c =
-    let p = err_from_is_err_and c.from-residual.result c.from-residual.ensures.1 in
+pub returns-in_err-within : goal.returns-in_err-within
+returns-in_err-within g c =
+    let p = err_from_is_err_and c.from_residual.result c.from_residual.ensures.1 in
     let a = load c.args.text.now c.args.to in
     record {
       does = λ out w.
           let s = state c.args.self.now.entries c.args.shelf.now (length c.args.work.now) out w in
           refused g.F.Field.field g.F.Field.value s a (λ _. Done) p
-          (absent g.F.Field.field s a [] (c.args.to ∷ []) 8192 (makes_of_none a c.args.to refl refl refl) c.args.to (inr (inl refl)) _ c.in-err-within.ensures.place_or_refused);
+          (absent g.F.Field.field s a [] (c.args.to ∷ []) 8192 (makes_of_none a c.args.to refl refl refl) c.args.to (inr (inl refl)) _ c.in_err-within.ensures.place_or_refused);
     }
 
-pub returns-in-err-room : goal.returns-in-err-room
-returns-in-err-room g c =
-    let p = err_from_is_err_and c.from-residual-in-err-room.result c.from-residual-in-err-room.ensures.1 in
+pub returns-in_err-room : goal.returns-in_err-room
+returns-in_err-room g c =
+    let p = err_from_is_err_and c.from_residual-in_err-room.result c.from_residual-in_err-room.ensures.1 in
     let a = load c.args.text.now c.args.to in
     record {
       does = λ out w.
           let s = state c.args.self.now.entries c.args.shelf.now (length c.args.work.now) out w in
           refused g.F.Field.field g.F.Field.value s a (λ _. Done) p
-          (short g.F.Field.field s a [] (c.args.to ∷ []) 8192 (makes_of_none a c.args.to refl refl refl) (λ q m. absurd m) (of_one Place {p = c.args.to} c.in-ok-within.ensures.place_or_refused) _ c.in-err-room.ensures.room_or_refused);
+          (short g.F.Field.field s a [] (c.args.to ∷ []) 8192 (makes_of_none a c.args.to refl refl refl) (λ q m. absurd m) (of_one Place {p = c.args.to} c.in_ok-within.ensures.place_or_refused) _ c.in_err-room.ensures.room_or_refused);
     }
 
 pub returns-in-Ok : goal.returns-in-Ok
@@ -42,12 +42,12 @@ returns-in-Ok g c =
     let z = c.in-Ok.shape in
     let R = table_at K v c.read_table.new.work 0 z.states z.letters in
     let h = c.in-Ok.ensures.accepted_or_refused in
-    let there = c.in-ok-room.ensures.room_or_refused in
+    let there = c.in_ok-room.ensures.room_or_refused in
     record {
       does = λ out w.
           let s = state es mem (length c.args.work.now) out w in (
             load_accepts K s c.args.text.now c.args.to
-                (past_4 K s a [] (c.args.to ∷ []) 8192 (makes_of_none a c.args.to refl refl refl) (λ q m. absurd m) (of_one Place {p = c.args.to} c.in-ok-within.ensures.place_or_refused) there.0 there.1 (λ q m. absurd m))
+                (past_4 K s a [] (c.args.to ∷ []) 8192 (makes_of_none a c.args.to refl refl refl) (λ q m. absurd m) (of_one Place {p = c.args.to} c.in_ok-within.ensures.place_or_refused) there.0 there.1 (λ q m. absurd m))
                 R h.sized h.is,
             (
               refl,
@@ -68,12 +68,12 @@ returns-in-Err g c =
     let es = c.args.self.now.entries in
     let mem = c.args.shelf.now in
     let a = load c.args.text.now c.args.to in
-    let there = c.in-ok-room.ensures.room_or_refused in
+    let there = c.in_ok-room.ensures.room_or_refused in
     record {
       does = λ out w.
           let s = state es mem (length c.args.work.now) out w in (
             load_refuses K s c.args.text.now c.args.to
-                (past_4 K s a [] (c.args.to ∷ []) 8192 (makes_of_none a c.args.to refl refl refl) (λ q m. absurd m) (of_one Place {p = c.args.to} c.in-ok-within.ensures.place_or_refused) there.0 there.1 (λ q m. absurd m))
+                (past_4 K s a [] (c.args.to ∷ []) 8192 (makes_of_none a c.args.to refl refl refl) (λ q m. absurd m) (of_one Place {p = c.args.to} c.in_ok-within.ensures.place_or_refused) there.0 there.1 (λ q m. absurd m))
                 c.in-Err.fault c.in-Err.ensures.accepted_or_refused,
             ap (λ n. state es mem n out w) c.read_table.auto.work,
           );

@@ -16,17 +16,17 @@ returns g c =
     let v = g.F.Field.value in
     let es = c.args.self.now.entries in
     let mem = c.args.shelf.now in
-    let t = c.in-ok-table.table in
+    let t = c.in_ok-table.table in
     let R = table_at K v c.reduce-states.new.work 0 c.reduce-states.result t.letters in
     record {
       does = λ out w. (
         reduce_accepts K (state es mem (length c.args.work.now) out w) c.args.place c.args.to
-            (c.in-ok-table.ensures.checked (reduce c.args.place c.args.to) out w (makes_of_one (reduce c.args.place c.args.to) c.args.place c.args.to refl refl refl)),
+            (c.in_ok-table.ensures.checked (reduce c.args.place c.args.to) out w (makes_of_one (reduce c.args.place c.args.to) c.args.place c.args.to refl refl refl)),
         (
           refl,
           (
             R,
-            subst (λ T. Reduced K T.letters (weight K T) R) (table_found K v es mem (length mem) c.args.place t c.in-ok-table.ensures.found.0) c.reduce-states.ensures.reduced_form,
+            subst (λ T. Reduced K T.letters (weight K T) R) (table_found K v es mem (length mem) c.args.place t c.in_ok-table.ensures.found.0) c.reduce-states.ensures.reduced_form,
             made K v es c.keep.new.self.entries mem c.keep.new.shelf c.args.work.now c.reduce-states.new.work c.args.to c.reduce-states.result t.letters R R (same_refl R) refl
                 c.keep.ensures.kept c.reduce-states.auto.work out w,
           ),

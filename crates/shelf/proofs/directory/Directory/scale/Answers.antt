@@ -12,21 +12,21 @@ use Rattle.shelf.proofs.directory.Directory.scale.Goals as goal
 
 pub scale-requires : goal.scale-requires
 scale-requires g c =
-    let f = c.in-ok-table.ensures.found in
-    record { table_lies = f.0.lies; room = front_room (length c.args.shelf.now) (length c.args.work.now) c.in-ok-table.table f.0.lies f.1.working }
+    let f = c.in_ok-table.ensures.found in
+    record { table_lies = f.0.lies; room = front_room (length c.args.shelf.now) (length c.args.work.now) c.in_ok-table.table f.0.lies f.1.working }
 
-pub returns-in-default : goal.returns-in-default
-returns-in-default g c =
+pub returns-in_default : goal.returns-in_default
+returns-in_default g c =
     let K = g.F.Field.field in
     let v = g.F.Field.value in
     let es = c.args.self.now.entries in
     let mem = c.args.shelf.now in
-    let t = c.in-ok-table.table in
+    let t = c.in_ok-table.table in
     record {
       does = λ out w. (
         scale_refuses K (state es mem (length c.args.work.now) out w) c.args.place c.args.code c.args.to
-            (c.in-ok-table.ensures.checked (scale c.args.place c.args.code c.args.to) out w (makes_of_one (scale c.args.place c.args.code c.args.to) c.args.place c.args.to refl refl refl))
-            c.in-default.ensures.is_decoded_below_order,
+            (c.in_ok-table.ensures.checked (scale c.args.place c.args.code c.args.to) out w (makes_of_one (scale c.args.place c.args.code c.args.to) c.args.place c.args.to refl refl refl))
+            c.in_default.ensures.is_decoded_below_order,
         refl,
       );
     }
@@ -37,18 +37,18 @@ returns g c =
     let v = g.F.Field.value in
     let es = c.args.self.now.entries in
     let mem = c.args.shelf.now in
-    let t = c.in-ok-table.table in
+    let t = c.in_ok-table.table in
     let h = c.in-Some.ensures.is_decoded_below_order in
     record {
       does = λ out w. (
         scale_accepts K (state es mem (length c.args.work.now) out w) c.args.place c.args.code c.args.to
-            (c.in-ok-table.ensures.checked (scale c.args.place c.args.code c.args.to) out w (makes_of_one (scale c.args.place c.args.code c.args.to) c.args.place c.args.to refl refl refl))
+            (c.in_ok-table.ensures.checked (scale c.args.place c.args.code c.args.to) out w (makes_of_one (scale c.args.place c.args.code c.args.to) c.args.place c.args.to refl refl refl))
             h.0,
         (
           refl,
           made K v es c.keep.new.self.entries mem c.keep.new.shelf c.args.work.now c.scale.new.work c.args.to t.states t.letters
               (scaled_table K (v c.in-Some.factor) (table_of K v mem t)) (scaled_table K (K.decode c.args.code) (table K v (shelf_of es mem) c.args.place))
-              c.scale.ensures.scaled_written.same (ap (λ x. scaled_table K x (table_of K v mem t)) h.1 ∙ ap (scaled_table K (K.decode c.args.code)) (table_found K v es mem (length mem) c.args.place t c.in-ok-table.ensures.found.0))
+              c.scale.ensures.scaled_written.same (ap (λ x. scaled_table K x (table_of K v mem t)) h.1 ∙ ap (scaled_table K (K.decode c.args.code)) (table_found K v es mem (length mem) c.args.place t c.in_ok-table.ensures.found.0))
               c.keep.ensures.kept c.scale.auto.work out w,
         ),
       );

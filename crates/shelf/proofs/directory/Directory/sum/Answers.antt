@@ -14,29 +14,29 @@ use Rattle.shelf.proofs.directory.Directory.sum.Goals as goal
 
 pub sum-requires : goal.sum-requires
 sum-requires g c =
-    let f = c.in-ok-both.ensures.found in
+    let f = c.in_ok-both.ensures.found in
     record {
       left_lies = f.left.lies;
       right_lies = f.right.lies;
       same_letters = f.same_letters;
       few_states = c.if-states-gt16.false;
-      room = omega (arith, block_fits (c.in-ok-both.both.left.states + c.in-ok-both.both.right.states) c.in-ok-both.both.left.letters (record { states = c.if-states-gt16.false; some_letter = f.left.lies.some_letter; letters = f.left.lies.few_letters }), f.room.working);
+      room = omega (arith, block_fits (c.in_ok-both.both.left.states + c.in_ok-both.both.right.states) c.in_ok-both.both.left.letters (record { states = c.if-states-gt16.false; some_letter = f.left.lies.some_letter; letters = f.left.lies.few_letters }), f.room.working);
     }
 
-pub returns-in-err-both : goal.returns-in-err-both
-returns-in-err-both g c = record {
+pub returns-in_err-both : goal.returns-in_err-both
+returns-in_err-both g c = record {
   does = λ out w.
-      refused g.F.Field.field g.F.Field.value (state c.args.self.now.entries c.args.shelf.now (length c.args.work.now) out w) (sum c.args.first c.args.second c.args.to) (λ _. Done) (err_from_is_err_and c.from-residual.result c.from-residual.ensures.1)
-      (c.in-err-both.ensures.checked (sum c.args.first c.args.second c.args.to) out w (of_sum c.args.first c.args.second c.args.to));
+      refused g.F.Field.field g.F.Field.value (state c.args.self.now.entries c.args.shelf.now (length c.args.work.now) out w) (sum c.args.first c.args.second c.args.to) (λ _. Done) (err_from_is_err_and c.from_residual.result c.from_residual.ensures.1)
+      (c.in_err-both.ensures.checked (sum c.args.first c.args.second c.args.to) out w (of_sum c.args.first c.args.second c.args.to));
 }
 
 pub returns-then-states-gt16 : goal.returns-then-states-gt16
 returns-then-states-gt16 g c =
-    let f = c.in-ok-both.ensures.found in
+    let f = c.in_ok-both.ensures.found in
     record {
       does = λ out w. (
         sum_refuses g.F.Field.field (state c.args.self.now.entries c.args.shelf.now (length c.args.work.now) out w) c.args.first c.args.second c.args.to
-            (c.in-ok-both.ensures.checked (sum c.args.first c.args.second c.args.to) out w (of_sum c.args.first c.args.second c.args.to))
+            (c.in_ok-both.ensures.checked (sum c.args.first c.args.second c.args.to) out w (of_sum c.args.first c.args.second c.args.to))
             (subst₂ (λ d e. 16 < states_of d + states_of e) (sym f.left.told) (sym f.right.told) c.if-states-gt16.true),
         refl,
       );
@@ -48,13 +48,13 @@ returns g c =
     let v = g.F.Field.value in
     let es = c.args.self.now.entries in
     let mem = c.args.shelf.now in
-    let l = c.in-ok-both.both.left in
-    let r = c.in-ok-both.both.right in
-    let f = c.in-ok-both.ensures.found in
+    let l = c.in_ok-both.both.left in
+    let r = c.in_ok-both.both.right in
+    let f = c.in_ok-both.ensures.found in
     record {
       does = λ out w. (
         sum_accepts K (state es mem (length c.args.work.now) out w) c.args.first c.args.second c.args.to
-            (c.in-ok-both.ensures.checked (sum c.args.first c.args.second c.args.to) out w (of_sum c.args.first c.args.second c.args.to))
+            (c.in_ok-both.ensures.checked (sum c.args.first c.args.second c.args.to) out w (of_sum c.args.first c.args.second c.args.to))
             (subst₂ (λ d e. states_of d + states_of e ≤ 16) (sym f.left.told) (sym f.right.told) c.if-states-gt16.false),
         (
           refl,

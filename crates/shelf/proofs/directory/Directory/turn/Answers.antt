@@ -12,8 +12,8 @@ use Rattle.shelf.proofs.directory.Directory.turn.Goals as goal
 
 pub turn-requires : goal.turn-requires
 turn-requires g c =
-    let f = c.in-ok-table.ensures.found in
-    record { table_lies = f.0.lies; room = front_room (length c.args.shelf.now) (length c.args.work.now) c.in-ok-table.table f.0.lies f.1.working }
+    let f = c.in_ok-table.ensures.found in
+    record { table_lies = f.0.lies; room = front_room (length c.args.shelf.now) (length c.args.work.now) c.in_ok-table.table f.0.lies f.1.working }
 
 pub returns : goal.returns
 returns g c =
@@ -21,16 +21,16 @@ returns g c =
     let v = g.F.Field.value in
     let es = c.args.self.now.entries in
     let mem = c.args.shelf.now in
-    let t = c.in-ok-table.table in
+    let t = c.in_ok-table.table in
     record {
       does = λ out w. (
         turn_accepts K (state es mem (length c.args.work.now) out w) c.args.place c.args.to
-            (c.in-ok-table.ensures.checked (turn c.args.place c.args.to) out w (makes_of_one (turn c.args.place c.args.to) c.args.place c.args.to refl refl refl)),
+            (c.in_ok-table.ensures.checked (turn c.args.place c.args.to) out w (makes_of_one (turn c.args.place c.args.to) c.args.place c.args.to refl refl refl)),
         (
           refl,
           made K v es c.keep.new.self.entries mem c.keep.new.shelf c.args.work.now c.turn.new.work c.args.to t.states t.letters
               (turned_table K (table_of K v mem t)) (turned_table K (table K v (shelf_of es mem) c.args.place))
-              c.turn.ensures.turned_written.same (ap (turned_table K) (table_found K v es mem (length mem) c.args.place t c.in-ok-table.ensures.found.0))
+              c.turn.ensures.turned_written.same (ap (turned_table K) (table_found K v es mem (length mem) c.args.place t c.in_ok-table.ensures.found.0))
               c.keep.ensures.kept c.turn.auto.work out w,
         ),
       );

@@ -12,44 +12,44 @@ use Rattle.shelf.proofs.Late.{write_accepts, write_refuses}
 use Rattle.shelf.proofs.Texts.{front_written}
 use Rattle.shelf.proofs.directory.Directory.write.Goals as goal
 
-pub returns-in-err-within : goal.returns-in-err-within
-returns-in-err-within g c =
-    let p = err_from_is_err_and c.from-residual.result c.from-residual.ensures.1 in
+pub returns-in_err-within : goal.returns-in_err-within
+returns-in_err-within g c =
+    let p = err_from_is_err_and c.from_residual.result c.from_residual.ensures.1 in
     let a = write c.args.place in
     record {
       does = λ n w.
           let s = state c.args.self.now.entries c.args.shelf.now n c.args.output.now w in
           refused g.F.Field.field g.F.Field.value s a Count p
-          (absent g.F.Field.field s a (c.args.place ∷ []) (c.args.place ∷ []) 0 (reads_one a c.args.place 0 refl refl refl) c.args.place (inl (inl refl)) _ c.in-err-within.ensures.place_or_refused);
+          (absent g.F.Field.field s a (c.args.place ∷ []) (c.args.place ∷ []) 0 (reads_one a c.args.place 0 refl refl refl) c.args.place (inl (inl refl)) _ c.in_err-within.ensures.place_or_refused);
     }
 
 pub returns-then-shelf-lt-SHELF : goal.returns-then-shelf-lt-SHELF
 returns-then-shelf-lt-SHELF g c =
     let a = write c.args.place in
-    let places = of_one Place {p = c.args.place} c.in-ok-within.ensures.place_or_refused in
+    let places = of_one Place {p = c.args.place} c.in_ok-within.ensures.place_or_refused in
     record {
       does = λ n w. (no_memory g.F.Field.field (state c.args.self.now.entries c.args.shelf.now n c.args.output.now w) a (c.args.place ∷ []) (c.args.place ∷ []) 0 (reads_one a c.args.place 0 refl refl refl) places places c.if-shelf-lt-SHELF.true, refl);
     }
 
-pub returns-in-err-table : goal.returns-in-err-table
-returns-in-err-table g c =
-    let p = err_from_is_err_and c.from-residual-in-err-table.result c.from-residual-in-err-table.ensures.1 in
+pub returns-in_err-table : goal.returns-in_err-table
+returns-in_err-table g c =
+    let p = err_from_is_err_and c.from_residual-in_err-table.result c.from_residual-in_err-table.ensures.1 in
     let a = write c.args.place in
-    let places = of_one Place {p = c.args.place} c.in-ok-within.ensures.place_or_refused in
+    let places = of_one Place {p = c.args.place} c.in_ok-within.ensures.place_or_refused in
     record {
       does = λ n w.
           let s = state c.args.self.now.entries c.args.shelf.now n c.args.output.now w in
           refused g.F.Field.field g.F.Field.value s a Count p
-          (unfilled g.F.Field.field s a (c.args.place ∷ []) (c.args.place ∷ []) 0 (reads_one a c.args.place 0 refl refl refl) places places c.if-shelf-lt-SHELF.false (omega arith) c.args.place (inl refl) _ c.in-err-table.ensures.found_or_refused);
+          (unfilled g.F.Field.field s a (c.args.place ∷ []) (c.args.place ∷ []) 0 (reads_one a c.args.place 0 refl refl refl) places places c.if-shelf-lt-SHELF.false (omega arith) c.args.place (inl refl) _ c.in_err-table.ensures.found_or_refused);
     }
 
-pub returns-then-output-text-size : goal.returns-then-output-text-size
-returns-then-output-text-size g c =
+pub returns-then-output-text_size : goal.returns-then-output-text_size
+returns-then-output-text_size g c =
     let a = write c.args.place in
-    let t = c.in-ok-table.table in
-    let found = c.in-ok-table.ensures.found_or_refused in
-    let places = of_one Place {p = c.args.place} c.in-ok-within.ensures.place_or_refused in
-    let short : length c.args.output.now < text_size t.states t.letters = subst (λ m. length c.args.output.now < m) c.text_size.ensures.counted c.if-output-text-size.true in
+    let t = c.in_ok-table.table in
+    let found = c.in_ok-table.ensures.found_or_refused in
+    let places = of_one Place {p = c.args.place} c.in_ok-within.ensures.place_or_refused in
+    let short : length c.args.output.now < text_size t.states t.letters = subst (λ m. length c.args.output.now < m) c.text_size.ensures.counted c.if-output-text_size.true in
     record {
       does = λ n w.
           let s = state c.args.self.now.entries c.args.shelf.now n c.args.output.now w in (
@@ -68,10 +68,10 @@ returns g c =
     let es = c.args.self.now.entries in
     let mem = c.args.shelf.now in
     let a = write c.args.place in
-    let t = c.in-ok-table.table in
-    let found = c.in-ok-table.ensures.found_or_refused in
-    let places = of_one Place {p = c.args.place} c.in-ok-within.ensures.place_or_refused in
-    let room : text_size t.states t.letters ≤ length c.args.output.now = subst (λ m. m ≤ length c.args.output.now) c.text_size.ensures.counted c.if-output-text-size.false in
+    let t = c.in_ok-table.table in
+    let found = c.in_ok-table.ensures.found_or_refused in
+    let places = of_one Place {p = c.args.place} c.in_ok-within.ensures.place_or_refused in
+    let room : text_size t.states t.letters ≤ length c.args.output.now = subst (λ m. m ≤ length c.args.output.now) c.text_size.ensures.counted c.if-output-text_size.false in
     let same : table_of K v mem t ≡ table K v (shelf_of es mem) c.args.place = table_found K v es mem (length mem) c.args.place t found in
     let front = front_written c.write_table.result (text_of K (table K v (shelf_of es mem) c.args.place)) c.args.output.now c.write_table.new.output (c.write_table.ensures.written ∙ ap (text_of K) same) c.write_table.ensures.later_bytes_kept
     (omega (arith, c.write_table.ensures.counted, c.write_table.auto.output, room)) in
