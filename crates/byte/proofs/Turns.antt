@@ -1,5 +1,5 @@
 -- The turns of the loops of `product` and `inverse`. Assumes nothing.
-use Rattle.std.proofs.Common.{◌≡◌, ℕ, zero, suc, ◌+◌, ◌-◌, ◌*◌, ◌/◌, ◌%◌, ◌<◌, ◌≤◌, sym, refl, ap, ◌∙◌, mod-eq_of_lt, arith}
+use Rattle.std.proofs.Common.{◌≡◌, ℕ, suc, ◌+◌, ◌-◌, ◌*◌, ◌/◌, ◌%◌, ◌<◌, ◌≤◌, sym, refl, ap, ◌∙◌, mod-eq_of_lt, arith}
 use lib.Bits.{bit_xor, xor_assoc, xor_zero_r}
 use Rattle.byte.specs.Product.{raised, partial, product, power, inverse_of}
 

@@ -1,5 +1,5 @@
 -- The bytes as a field of 256 values: the laws come from linearity and from tests that the checker computes. Assumes nothing.
-use Rattle.std.specs.Prelude.{◌≡◌, ℕ, zero, suc, ◌+◌, ◌*◌, ◌/◌, ◌%◌, ◌^◌, ◌<◌, ◌≤◌, min, Bool, true, false, T, ◌≢◌, ◌==◌, bit_xor, refl}
+use Rattle.std.specs.Prelude.{◌≡◌, ℕ, zero, suc, ◌*◌, ◌/◌, ◌%◌, ◌^◌, ◌<◌, ◌≤◌, min, Bool, true, T, ◌≢◌, ◌==◌, bit_xor, refl}
 use Rattle.std.proofs.Common.{sym, ap, ◌∙◌, subst, mod-lt, mod-eq_of_lt, arith, lit<, lit≤}
 use Rattle.std.specs.Int.Bits.{xor_assoc, xor_self, xor_zero_r}
 use Rattle.std.proofs.lemmas.Bool.{eqb-true}
@@ -7,7 +7,7 @@ use Rattle.std.proofs.lemmas.Nat.{mul-le, xor_comm, xor_lt}
 use Rattle.field.specs.FiniteField.{FiniteField}
 use Rattle.field.specs.Below.{Below, same_below}
 use Rattle.byte.specs.Product.{raised, partial, product, power, inverse_of}
-use Rattle.byte.specs.Linear.{Linear, left, right, agree, all, all_at}
+use Rattle.byte.specs.Linear.{left, right, agree, all, all_at}
 
 raised_lt : (a : ℕ) → raised a < 256
 raised_lt a = xor_lt 8 (a % 128 * 2) (a / 128 % 2 * 27) (omega (arith, mod-lt a {m = 128} (lit< tt))) (omega (arith, mod-lt (a / 128) {m = 2} (lit< tt)))

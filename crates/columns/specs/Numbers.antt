@@ -1,5 +1,5 @@
 -- A number in eleven columns, and where a reader of one stops. Assumes nothing.
-use Rattle.std.specs.Prelude.{◌≡◌, ℕ, ◌+◌, ◌-◌, ◌^◌, ◌<◌, List, [], ◌++◌, length, take, replicate, decimal}
+use Rattle.std.specs.Prelude.{◌≡◌, ℕ, ◌+◌, ◌-◌, ◌^◌, ◌<◌, List, ◌++◌, length, take, replicate, decimal}
 
 -- spaces, then the digits, right-justified
 unfoldable pub number : ℕ → List ℕ

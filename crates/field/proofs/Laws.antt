@@ -1,5 +1,5 @@
 -- What the laws of a field give, and the rules by which `simp (ring, K)` closes a ring identity. Assumes nothing.
-use Rattle.std.proofs.Common.{◌≡◌, ◌≢◌, sym, refl, ap, ◌∙◌, ap₂}
+use Rattle.std.proofs.Common.{◌≡◌, ◌≢◌, sym, ap, ◌∙◌, ap₂}
 use native.Mathlib.Decide.{ℕ_discrete}
 use Rattle.field.specs.FiniteField.{FiniteField}
 

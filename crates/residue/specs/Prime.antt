@@ -1,5 +1,5 @@
 -- What the arithmetic of residues asks of its modulus. Assumes nothing.
-use Rattle.std.specs.Prelude.{◌≡◌, ℕ, ◌%◌, ◌<◌, ◌≤◌, ◌≢◌}
+use Rattle.std.specs.Prelude.{ℕ, ◌%◌, ◌<◌, ◌≤◌, ◌≢◌}
 
 -- p lies from 2 to 65537, and no number from 2 up to the one below it divides it
 pub record Prime (p : ℕ) : Type 0 where

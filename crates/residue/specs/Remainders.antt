@@ -1,7 +1,7 @@
 -- Remainders of products, and the inverse-step towards an inverse. Assumes nothing.
-use Rattle.std.specs.Prelude.{◌≡◌, ℕ, zero, suc, ◌+◌, ◌-◌, ◌*◌, ◌/◌, ◌%◌, ◌<◌, ◌≤◌, refl}
-use Rattle.std.proofs.Common.{sym, ap, ◌∙◌, mul_comm, mul_assoc, mul-add, add-mul, mul_left_comm, mod-lt, mod-eq_of_lt, arith}
-use Rattle.std.proofs.Math.Nat.{add-mul-mod_self_left, mod-add-div, div-add-mod, mod-mod}
+use Rattle.std.specs.Prelude.{◌≡◌, ℕ, ◌+◌, ◌-◌, ◌*◌, ◌/◌, ◌%◌, ◌<◌, ◌≤◌}
+use Rattle.std.proofs.Common.{sym, ap, ◌∙◌, mul_comm, mul_assoc, mul-add, add-mul, mul_left_comm, arith}
+use Rattle.std.proofs.Math.Nat.{add-mul-mod_self_left, mod-add-div, div-add-mod}
 
 -- equal but for multiples of p
 pub mod_same : (p a b m n : ℕ) → a + p * m ≡ b + p * n → a % p ≡ b % p

@@ -1,5 +1,5 @@
 -- Where the parts of a table end. Assumes nothing.
-use Rattle.std.proofs.Common.{◌≡◌, ℕ, zero, suc, ◌+◌, ◌-◌, ◌*◌, ◌/◌, ◌%◌, ◌<◌, ◌≤◌, ◌∙◌, mod-lt, mod-eq_of_lt, mul_comm, div-lt_iff_lt-mul, mul-zero, arith}
+use Rattle.std.proofs.Common.{◌≡◌, ℕ, zero, suc, ◌+◌, ◌-◌, ◌*◌, ◌/◌, ◌%◌, ◌<◌, ◌≤◌, ◌∙◌, mod-lt, mod-eq_of_lt, div-lt_iff_lt-mul, mul-zero, arith}
 use native.Mathlib.Nat.{mul-add-mod_self_right, div-eq_of_lt-le}
 use Rattle.std.proofs.lemmas.Nat.{mul-le}
 use Rattle.rows.specs.Layout.{table_size, matrix_offset}

@@ -1,5 +1,5 @@
 -- Sums over indices, as loops step through them. Assumes nothing.
-use Rattle.std.proofs.Common.{◌≡◌, ℕ, ◌+◌, ◌<◌, add-one}
+use Rattle.std.proofs.Common.{◌≡◌, ℕ, ◌+◌, add-one}
 use Rattle.field.specs.FiniteField.{FiniteField}
 use Rattle.series.specs.Sums.{sum}
 use Rattle.series.specs.Tables.{dot, Agree}

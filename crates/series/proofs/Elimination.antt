@@ -1,5 +1,5 @@
 -- Elimination: a list of more vectors than places is dependent, and whether a vector is a combination of a list's is decided. Assumes nothing.
-use Rattle.std.proofs.Common.{◌≡◌, ℕ, zero, suc, ◌<◌, ◌≢◌, ◌⊎◌, List, [], ◌∷◌, length, sym, refl, ap, ◌∙◌, ap₂, inl, inr, arith}
+use Rattle.std.proofs.Common.{◌≡◌, ℕ, suc, ◌<◌, ◌≢◌, ◌⊎◌, List, [], ◌∷◌, length, sym, refl, ap, ◌∙◌, ap₂, inl, inr, arith}
 use Rattle.field.specs.FiniteField.{FiniteField}
 use Rattle.field.proofs.Laws.{same?, zero_plus, zero_times, one_times, neg_times, neg_zero, ring}
 use Rattle.series.specs.Spans.{Span, none}

@@ -1,5 +1,5 @@
 -- Kept and tried words, and when two tables weigh alike. Assumes nothing.
-use Rattle.std.proofs.Common.{◌≡◌, ℕ, zero, ◌+◌, ◌*◌, ◌<◌, ◌≤◌, ◌≢◌, ◌⊎◌, ◌↔◌, [], ◌∷◌, ◌++◌, length, sym, ap, ◌∙◌, subst, ap₂, inl, inr, mul_comm, arith}
+use Rattle.std.proofs.Common.{◌≡◌, ℕ, ◌+◌, ◌*◌, ◌<◌, ◌≤◌, ◌≢◌, ◌⊎◌, ◌↔◌, [], ◌∷◌, ◌++◌, length, sym, ap, ◌∙◌, subst, ap₂, inl, inr, mul_comm, arith}
 use Rattle.field.specs.FiniteField.{FiniteField}
 use Rattle.field.proofs.Laws.{same?}
 use Rattle.series.specs.Words.{Word, Over, ◌≺◌}

@@ -1,5 +1,5 @@
 -- A table's rows seen through columns that span those of all words: the words fresh in this view are the leading ones. Assumes nothing.
-use Rattle.std.proofs.Common.{◌≡◌, ℕ, zero, ◌<◌, [], ◌∷◌, ◌++◌, sym, ap, ◌∙◌}
+use Rattle.std.proofs.Common.{◌≡◌, ℕ, ◌<◌, [], ◌∷◌, ◌++◌, sym, ap, ◌∙◌}
 use Rattle.field.specs.FiniteField.{FiniteField}
 use Rattle.series.specs.Spans.{Span}
 use Rattle.series.specs.Words.{Word, Over}

@@ -1,5 +1,5 @@
 -- Sequence tables: weighted automata over a field, and the weight of a word. Assumes nothing.
-use Rattle.std.specs.Prelude.{◌≡◌, ℕ, zero, suc, ◌<◌, ◌≤◌, List, [], ◌∷◌}
+use Rattle.std.specs.Prelude.{◌≡◌, ℕ, zero, suc, ◌<◌, ◌≤◌, [], ◌∷◌}
 use Rattle.field.specs.FiniteField.{FiniteField}
 use Rattle.series.specs.Sums.{sum}
 use Rattle.series.specs.Words.{Word}

@@ -1,5 +1,5 @@
 -- Sizes within the limits. Assumes nothing.
-use Rattle.std.proofs.Common.{◌≡◌, ℕ, ◌+◌, ◌*◌, ◌<◌, ◌≤◌, ◌⊎◌, ap, ⊎_elim, mul_assoc, mul-le-mul, mul-zero, arith}
+use Rattle.std.proofs.Common.{◌≡◌, ℕ, ◌+◌, ◌*◌, ◌<◌, ◌≤◌, ap, ⊎_elim, mul_assoc, mul-le-mul, mul-zero, arith}
 use Rattle.std.proofs.lemmas.Bool.{cases_eq}
 use Rattle.rows.specs.Layout.{table_size}
 use Rattle.text.specs.Texts.{Limits, text_size}

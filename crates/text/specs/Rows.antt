@@ -1,5 +1,5 @@
 -- Rows of codes in memory, as the reader and the writer go through them: j counts the rows of all matrices from 0. Assumes nothing.
-use Rattle.std.specs.Prelude.{ℕ, ◌+◌, ◌-◌, ◌*◌, ◌/◌, ◌%◌, List, [], ◌∷◌, map, take, drop}
+use Rattle.std.specs.Prelude.{ℕ, ◌+◌, ◌*◌, ◌/◌, ◌%◌, List, ◌∷◌, map, take, drop}
 use Rattle.std.specs.List.{range_with_len, flat_map}
 use Rattle.field.specs.FiniteField.{FiniteField}
 use Rattle.columns.specs.Lines.{letter, line}

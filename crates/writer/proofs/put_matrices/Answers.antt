@@ -1,4 +1,4 @@
-use Rattle.std.proofs.Common.{◌+◌, ◌-◌, ◌*◌, ◌/◌, ◌%◌, ◌≤◌, [], ◌∷◌, length, ap, ◌∙◌, div-le_self, arith, rules}
+use Rattle.std.proofs.Common.{◌+◌, ◌-◌, ◌*◌, ◌/◌, ◌%◌, ◌≤◌, ◌∷◌, length, ap, ◌∙◌, div-le_self, arith, rules}
 use native.Mathlib.Nat.{mod-le}
 use Rattle.columns.specs.Lines.{line}
 use Rattle.text.specs.Rows.{codes_of}

@@ -1,4 +1,4 @@
-use Rattle.std.proofs.Common.{◌+◌, ◌-◌, [], ◌∷◌, ◌++◌, length, sym, refl, ap, ◌∙◌, append-nil, arith}
+use Rattle.std.proofs.Common.{[], ◌∷◌, ◌++◌, length, sym, refl, ap, ◌∙◌, append-nil, arith}
 use Rattle.columns.specs.Numbers.{number}
 use Rattle.columns.proofs.Begun.{length_number}
 use Rattle.writer.proofs.Puts.{heads_put}

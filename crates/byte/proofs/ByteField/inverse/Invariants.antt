@@ -1,4 +1,4 @@
-use Rattle.std.proofs.Common.{◌≡◌, ◌-◌, ◌<◌}
+use Rattle.std.proofs.Common.{◌≡◌, ◌-◌}
 use Rattle.byte.specs.Product.{power, inverse_of}
 use Rattle.byte.proofs.ByteField.inverse.Given as goal
 

@@ -1,4 +1,4 @@
-use Rattle.std.proofs.Common.{◌≡◌, ◌+◌, ◌%◌, sym, ap, ◌∙◌}
+use Rattle.std.proofs.Common.{◌≡◌, ◌+◌, ◌%◌, ap, ◌∙◌}
 use native.Mathlib.Nat.{mod-mod, add-mod}
 use Rattle.field.specs.Below.{same_below}
 use Rattle.loose.proofs.LooseField.add.Goals as goal

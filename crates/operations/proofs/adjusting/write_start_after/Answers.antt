@@ -1,5 +1,4 @@
 use mathlib.Core.Path.{ap, refl, ◌∙◌}
-use Prim.Native.Nat.{◌+◌, ◌*◌}
 use native.Mathlib.Omega.{arith}
 use Rattle.rows.specs.Memory.{at}
 use Rattle.rows.proofs.Layouts.{row_within}

@@ -1,5 +1,5 @@
 use mathlib.Core.Path.{ap, ap₂}
-use Prim.Native.Nat.{◌+◌, ◌/◌, ◌%◌}
+use Prim.Native.Nat.{◌/◌, ◌%◌}
 use native.Mathlib.Omega.{arith}
 use Rattle.rows.specs.Memory.{at}
 use Rattle.rows.proofs.Layouts.{row_within, matrix_row}

@@ -1,4 +1,4 @@
-use mathlib.Core.Path.{ap, ◌∙◌}
+use mathlib.Core.Path.{◌∙◌}
 use native.Mathlib.Omega.{arith}
 use Rattle.series.specs.Operations.{turned_table}
 use Rattle.series.proofs.Operations.{turned_weight}

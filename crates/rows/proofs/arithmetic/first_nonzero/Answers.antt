@@ -1,4 +1,4 @@
-use Rattle.std.proofs.Common.{◌≡◌, ◌+◌, sym, refl, ◌∙◌, arith, below_more}
+use Rattle.std.proofs.Common.{sym, refl, ◌∙◌, arith, below_more}
 use mathlib.Core.Bool.{false≢true}
 use Rattle.rows.proofs.Memory.{at_read}
 use Rattle.rows.proofs.arithmetic.first_nonzero.Goals as goal

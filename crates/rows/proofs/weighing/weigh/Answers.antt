@@ -1,4 +1,4 @@
-use Rattle.std.proofs.Common.{◌+◌, ◌*◌, ◌<◌, ◌≤◌, length, get_or, ap, ◌∙◌, subst, inl, inr, ⊎_elim, arith, take_all}
+use Rattle.std.proofs.Common.{◌+◌, ◌*◌, ◌≤◌, get_or, ap, ◌∙◌, subst, inl, inr, ⊎_elim, arith, take_all}
 use Rattle.series.specs.Words.{Over}
 use Rattle.series.specs.Tables.{move, row}
 use Rattle.rows.specs.Memory.{at, row_at, square_at}

@@ -3,7 +3,6 @@ use Rattle.series.specs.Reducing.{Reduced}
 use Rattle.series.specs.Tables.{weight}
 use Rattle.rows.specs.Layout.{table_at}
 use Rattle.book.specs.Calls.{reduce}
-use Rattle.book.specs.Shelves.{table}
 use Rattle.shelf.specs.Views.{state}
 use Rattle.shelf.proofs.Gating.{makes_of_one}
 use Rattle.shelf.proofs.Made.{same_refl, table_found, made}
