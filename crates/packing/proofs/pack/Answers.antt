@@ -6,8 +6,8 @@ use Rattle.packing.proofs.Hindrances.{load_hindered}
 use Rattle.packing.proofs.Packs.{stopped, reduces_then, compares_then, writes_then, packs}
 use Rattle.packing.proofs.pack.Goals as goal
 
-pub returns-in-err-load : goal.returns-in-err-load
-returns-in-err-load g c =
+pub returns-in_err-load : goal.returns-in_err-load
+returns-in_err-load g c =
     let K = g.F.Field.field in
     let v = g.F.Field.value in
     let text = c.args.text.now in
@@ -15,29 +15,29 @@ returns-in-err-load g c =
     let mem₁ = c.load.new.shelf in
     let out = c.args.output.now in
     let s = state c.open-directory.result.entries mem (length c.args.work.now) out c.blank-verdict.result in
-    let d = c.in-err-load.ensures.does out c.blank-verdict.result in
+    let d = c.in_err-load.ensures.does out c.blank-verdict.result in
     record {
-      packs_or_hindered = stopped (Packs K v text mem mem₁ out out) (λ f. Hindered K v text (length c.args.work.now) (length out) mem mem₁ f × (out ≡ out)) c.from-residual.result (err_from_is_err_and c.from-residual.result c.from-residual.ensures.1)
-          (load_hindered K s text v (length out) mem₁ c.in-err-load.field-0.0 d.0 (ap (λ t. t.shelf.memory) d.1), refl);
+      packs_or_hindered = stopped (Packs K v text mem mem₁ out out) (λ f. Hindered K v text (length c.args.work.now) (length out) mem mem₁ f × (out ≡ out)) c.from_residual.result (err_from_is_err_and c.from_residual.result c.from_residual.ensures.1)
+          (load_hindered K s text v (length out) mem₁ c.in_err-load.field-0.0 d.0 (ap (λ t. t.shelf.memory) d.1), refl);
     }
 
-pub returns-in-err-reduce : goal.returns-in-err-reduce
-returns-in-err-reduce g c =
+pub returns-in_err-reduce : goal.returns-in_err-reduce
+returns-in_err-reduce g c =
     let out = c.args.output.now in
     let z = c.blank-verdict.result in
     absurd (reduces_then g.F.Field.field g.F.Field.value c.args.text.now c.open-directory.result.entries c.load.new.self.entries c.args.shelf.now c.load.new.shelf (length c.args.work.now) (length c.load.new.work) out z
-    c.open-directory.ensures.all_empty (c.in-ok-load.ensures.does out z) c.in-err-reduce.field-0.0 (c.in-err-reduce.ensures.does out z).0)
+    c.open-directory.ensures.all_empty (c.in_ok-load.ensures.does out z) c.in_err-reduce.field-0.0 (c.in_err-reduce.ensures.does out z).0)
 
-pub returns-in-err-compare : goal.returns-in-err-compare
-returns-in-err-compare g c =
+pub returns-in_err-compare : goal.returns-in_err-compare
+returns-in_err-compare g c =
     let out = c.args.output.now in
     let z = c.blank-verdict.result in
     absurd (compares_then g.F.Field.field g.F.Field.value c.args.text.now c.open-directory.result.entries c.load.new.self.entries c.args.shelf.now c.load.new.shelf (length c.args.work.now) (length c.load.new.work) out z
-    c.open-directory.ensures.all_empty (c.in-ok-load.ensures.does out z) c.reduce.new.self.entries c.reduce.new.shelf (length c.reduce.new.work) (c.in-ok-reduce.ensures.does out z)
-    c.in-err-compare.field-0.0 (c.in-err-compare.ensures.does out).0)
+    c.open-directory.ensures.all_empty (c.in_ok-load.ensures.does out z) c.reduce.new.self.entries c.reduce.new.shelf (length c.reduce.new.work) (c.in_ok-reduce.ensures.does out z)
+    c.in_err-compare.field-0.0 (c.in_err-compare.ensures.does out).0)
 
-pub returns-in-err-bytes : goal.returns-in-err-bytes
-returns-in-err-bytes g c =
+pub returns-in_err-bytes : goal.returns-in_err-bytes
+returns-in_err-bytes g c =
     let K = g.F.Field.field in
     let v = g.F.Field.value in
     let text = c.args.text.now in
@@ -48,13 +48,13 @@ returns-in-err-bytes g c =
     let z = c.blank-verdict.result in
     let w₃ = length c.compare.new.work in
     let z' = c.compare.new.verdict in
-    let d = c.in-err-bytes.ensures.does w₃ z' in
+    let d = c.in_err-bytes.ensures.does w₃ z' in
     record {
-      packs_or_hindered = stopped (Packs K v text mem mem₂ out out') (λ f. Hindered K v text (length c.args.work.now) (length out) mem mem₂ f × (out' ≡ out)) c.from-residual-in-err-bytes.result
-          (err_from_is_err_and c.from-residual-in-err-bytes.result c.from-residual-in-err-bytes.ensures.1) (
+      packs_or_hindered = stopped (Packs K v text mem mem₂ out out') (λ f. Hindered K v text (length c.args.work.now) (length out) mem mem₂ f × (out' ≡ out)) c.from_residual-in_err-bytes.result
+          (err_from_is_err_and c.from_residual-in_err-bytes.result c.from_residual-in_err-bytes.ensures.1) (
             writes_then K v text c.open-directory.result.entries c.load.new.self.entries mem c.load.new.shelf (length c.args.work.now) (length c.load.new.work) out z
-                c.open-directory.ensures.all_empty (c.in-ok-load.ensures.does out z) c.reduce.new.self.entries mem₂ (length c.reduce.new.work) (c.in-ok-reduce.ensures.does out z)
-                w₃ z' c.in-err-bytes.field-0.0 d.0,
+                c.open-directory.ensures.all_empty (c.in_ok-load.ensures.does out z) c.reduce.new.self.entries mem₂ (length c.reduce.new.work) (c.in_ok-reduce.ensures.does out z)
+                w₃ z' c.in_err-bytes.field-0.0 d.0,
             ap (λ t. t.lent.output) d.1,
           );
     }
@@ -67,6 +67,6 @@ returns g c =
     let z' = c.compare.new.verdict in
     record {
       packs_or_hindered = packs g.F.Field.field g.F.Field.value c.args.text.now c.open-directory.result.entries c.load.new.self.entries c.args.shelf.now c.load.new.shelf (length c.args.work.now) (length c.load.new.work) out z
-          c.open-directory.ensures.all_empty (c.in-ok-load.ensures.does out z) c.reduce.new.self.entries c.reduce.new.shelf (length c.reduce.new.work) (c.in-ok-reduce.ensures.does out z)
-          w₃ z' (c.in-ok-compare.ensures.does out) c.in-ok-bytes.bytes c.write.new.output (c.in-ok-bytes.ensures.does w₃ z') c.states.result c.states-2.result c.states.ensures.told c.states-2.ensures.told;
+          c.open-directory.ensures.all_empty (c.in_ok-load.ensures.does out z) c.reduce.new.self.entries c.reduce.new.shelf (length c.reduce.new.work) (c.in_ok-reduce.ensures.does out z)
+          w₃ z' (c.in_ok-compare.ensures.does out) c.in_ok-bytes.bytes c.write.new.output (c.in_ok-bytes.ensures.does w₃ z') c.states.result c.states-2.result c.states.ensures.told c.states-2.ensures.told;
     }

@@ -3,8 +3,8 @@ use Rattle.std.proofs.lemmas.Nat.{mul-le}
 use Rattle.tour.proofs.Sizes.{fits, lies}
 use Rattle.tour.proofs.main.Goals as goal
 
-pub copy-table-requires : goal.copy-table-requires
-copy-table-requires c =
+pub copy_table-requires : goal.copy_table-requires
+copy_table-requires c =
     let sized = c.in-Ok.ensures.accepted_or_refused.sized in
     record {
       table_lies = lies _ 0 c.in-Ok.shape.states c.in-Ok.shape.letters sized.states sized.some_letter sized.letters (omega arith);
@@ -25,8 +25,8 @@ multiply-requires c =
       room = omega (arith, fits (n * n) k square sized.letters);
     }
 
-pub copy-table-requires-2 : goal.copy-table-requires-2
-copy-table-requires-2 c =
+pub copy_table-requires-2 : goal.copy_table-requires-2
+copy_table-requires-2 c =
     let sized = c.in-Ok.ensures.accepted_or_refused.sized in
     let n = c.in-Ok.shape.states in
     let k = c.in-Ok.shape.letters in
@@ -41,8 +41,8 @@ reduce-states-requires c =
     let square : n * n ≤ 16 = mul-le n n 4 4 c.if-shape-gt4.false c.if-shape-gt4.false in
     record { lies = lies _ 1568 (n * n) k square sized.some_letter sized.letters (omega arith); room = omega arith }
 
-pub copy-table-requires-3 : goal.copy-table-requires-3
-copy-table-requires-3 c =
+pub copy_table-requires-3 : goal.copy_table-requires-3
+copy_table-requires-3 c =
     let sized = c.in-Ok.ensures.accepted_or_refused.sized in
     let n = c.in-Ok.shape.states in
     let k = c.in-Ok.shape.letters in
@@ -67,8 +67,8 @@ compare-requires-2 c =
     let square : n * n ≤ 16 = mul-le n n 4 4 c.if-shape-gt4.false c.if-shape-gt4.false in
     record { left_lies = lies _ 0 n k sized.states sized.some_letter sized.letters (omega arith); right_lies = lies _ 1568 (n * n) k square sized.some_letter sized.letters (omega arith); same_letters = refl; room = omega arith }
 
-pub print-table-requires : goal.print-table-requires
-print-table-requires c =
+pub print_table-requires : goal.print_table-requires
+print_table-requires c =
     let sized = c.in-Ok.ensures.accepted_or_refused.sized in
     let n = c.in-Ok.shape.states in
     let k = c.in-Ok.shape.letters in

@@ -9,7 +9,7 @@ loop-b-preserved c =
     let line = c.args.line.now in
     let i = c.loop-b.b-index in
     let inside : i < length line = omega arith in
-    c.in-ok-push.ensures.items
+    c.in_ok-push.ensures.items
     ∙ ap₂ (λ xs y. xs ++ y ∷ []) c.loop-b.invariant c.letter_of.ensures.by_digit
     ∙ sym (ap (map letter) (take_more line i 0 inside) ∙ map-append letter (take i line) (get_or line i 0 ∷ []))
 

@@ -2,8 +2,8 @@ use Rattle.std.proofs.Common.{◌*◌, arith}
 use Rattle.std.proofs.lemmas.Nat.{mul-le}
 use Rattle.weigh.proofs.main.Goals as goal
 
-pub weight-code-requires : goal.weight-code-requires
-weight-code-requires c =
+pub weight_code-requires : goal.weight_code-requires
+weight_code-requires c =
     let sized = c.in-Ok.ensures.accepted_or_refused.sized in
     let n = c.in-Ok.shape.states in
     let matrix = mul-le n n 16 16 (omega arith) (omega arith) in

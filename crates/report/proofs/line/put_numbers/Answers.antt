@@ -3,8 +3,8 @@ use Rattle.text.proofs.Joins.{cut_length}
 use Rattle.writer.proofs.Puts.{numbers_next, numbers_done}
 use Rattle.report.proofs.line.put_numbers.Goals as goal
 
-pub put-number-requires : goal.put-number-requires
-put-number-requires c = record {
+pub put_number-requires : goal.put_number-requires
+put_number-requires c = record {
   eleven = cut_length (11 * c.loop-i.i) (11 * c.loop-i.i + 11) 11 c.loop-i.out refl (omega (arith, c.requires.room));
   ten_digits = c.requires.ten_digits c.loop-i.i (omega arith);
 }

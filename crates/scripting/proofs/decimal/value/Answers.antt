@@ -4,27 +4,27 @@ use Rattle.scripting.specs.Numerals.{read_on}
 use Rattle.scripting.proofs.Counting.{one_more, read_on_grows}
 use Rattle.scripting.proofs.decimal.value.Goals as goal
 
-pub returns-in-err-tens : goal.returns-in-err-tens
-returns-in-err-tens c =
+pub returns-in_err-tens : goal.returns-in_err-tens
+returns-in_err-tens c =
     let w = c.args.word.now in
     let i = c.loop-b.b-index in
     let v = c.loop-b.value in
     let h : i < length w = omega arith in
     let step = one_more v w i h in
     let grows = read_on_grows (v * 10 + (get_or w i 0 - 48)) (drop (i + 1) w) in
-    let large : 2 ^ 64 ≤ read_on 0 w = omega (arith, step, grows, c.loop-b.invariant, c.in-err-tens.ensures) in
-    record { read = rw c.from-residual.ensures large }
+    let large : 2 ^ 64 ≤ read_on 0 w = omega (arith, step, grows, c.loop-b.invariant, c.in_err-tens.ensures) in
+    record { read = rw c.from_residual.ensures large }
 
-pub returns-in-err-value : goal.returns-in-err-value
-returns-in-err-value c =
+pub returns-in_err-value : goal.returns-in_err-value
+returns-in_err-value c =
     let w = c.args.word.now in
     let i = c.loop-b.b-index in
     let v = c.loop-b.value in
     let h : i < length w = omega arith in
     let step = one_more v w i h in
     let grows = read_on_grows (v * 10 + (get_or w i 0 - 48)) (drop (i + 1) w) in
-    let large : 2 ^ 64 ≤ read_on 0 w = omega (arith, step, grows, c.loop-b.invariant, c.in-ok-tens.ensures, c.from.ensures, c.in-err-value.ensures) in
-    record { read = rw c.from-residual-in-err-value.ensures large }
+    let large : 2 ^ 64 ≤ read_on 0 w = omega (arith, step, grows, c.loop-b.invariant, c.in_ok-tens.ensures, c.from.ensures, c.in_err-value.ensures) in
+    record { read = rw c.from_residual-in_err-value.ensures large }
 
 pub loop-b-preserved : goal.loop-b-preserved
 loop-b-preserved c =
@@ -32,7 +32,7 @@ loop-b-preserved c =
     let i = c.loop-b.b-index in
     let v = c.loop-b.value in
     let h : i < length w = omega arith in
-    let e : c.in-ok-value.value ≡ v * 10 + (get_or w i 0 - 48) = omega (arith, c.in-ok-tens.ensures, c.from.ensures, c.in-ok-value.ensures) in
+    let e : c.in_ok-value.value ≡ v * 10 + (get_or w i 0 - 48) = omega (arith, c.in_ok-tens.ensures, c.from.ensures, c.in_ok-value.ensures) in
     ap (λ x. read_on x (drop (i + 1) w)) e ∙ sym (one_more v w i h) ∙ c.loop-b.invariant
 
 pub returns : goal.returns

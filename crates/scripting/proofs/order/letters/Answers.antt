@@ -6,11 +6,11 @@ pub loop-first-preserved : goal.loop-first-preserved
 loop-first-preserved c ns h =
     let line = c.args.line.now in
     let all = vec_items c.loop-first.all in
-    let n = c.in-ok-number.field-0 in
-    let whole : Numbers line (all ++ n ∷ ns) = c.loop-first.invariant (n ∷ ns) (next _ _ c.in-Some.ensures.word c.in-ok-number.ensures.written h) in
-    let pushed : vec_items c.push.new.self ≡ all ++ n ∷ [] = c.in-ok-push.ensures.items ∙ ap (λ a. all ++ a ∷ []) c.in-ok-letter.ensures.same in
+    let n = c.in_ok-number.field-0 in
+    let whole : Numbers line (all ++ n ∷ ns) = c.loop-first.invariant (n ∷ ns) (next _ _ c.in-Some.ensures.word c.in_ok-number.ensures.written h) in
+    let pushed : vec_items c.push.new.self ≡ all ++ n ∷ [] = c.in_ok-push.ensures.items ∙ ap (λ a. all ++ a ∷ []) c.in_ok-letter.ensures.same in
     let e : vec_items c.push.new.self ++ ns ≡ all ++ n ∷ ns = ap (λ xs. xs ++ ns) pushed ∙ append_assoc all (n ∷ []) ns in
     subst (λ xs. Numbers line xs) (sym e) whole
 
 pub returns : goal.returns
-returns c = record { read = subst (λ xs. Numbers c.args.line.now xs) (append-nil (vec_items c.loop-first.all)) (c.loop-first.invariant [] (none c.in-default.ensures.word)) }
+returns c = record { read = subst (λ xs. Numbers c.args.line.now xs) (append-nil (vec_items c.loop-first.all)) (c.loop-first.invariant [] (none c.in_default.ensures.word)) }

@@ -2,7 +2,7 @@ use Rattle.std.proofs.Common.{vec_items, vec_len, sym, ◌∙◌, arith, true-eq
 use Rattle.std.proofs.lemmas.List.{nil_from_length}
 use Rattle.scripting.proofs.performing.run.Goals as goal
 
-pub returns-then-is-empty : goal.returns-then-is-empty
-returns-then-is-empty c =
-    let ms = c.in-ok-mistakes.mistakes in
-    record { judged = sym c.in-ok-mistakes.ensures.told ∙ nil_from_length (vec_items ms) (omega (arith, ms.ok.0, true-eqb (vec_len ms) 0 c.if-is-empty.ensures)) }
+pub returns-then-is_empty : goal.returns-then-is_empty
+returns-then-is_empty c =
+    let ms = c.in_ok-mistakes.mistakes in
+    record { judged = sym c.in_ok-mistakes.ensures.told ∙ nil_from_length (vec_items ms) (omega (arith, ms.ok.0, true-eqb (vec_len ms) 0 c.if-is_empty.ensures)) }

@@ -3,7 +3,7 @@ use Rattle.std.proofs.lemmas.List.{drop_all}
 use Rattle.scripting.specs.Mistakes.{wrong, mistakes_of}
 use Rattle.scripting.proofs.Lines.{one_line_more}
 use Rattle.scripting.proofs.reading.Script.mistakes.Goals as goal
-use Rattle.scripting.proofs.reading.Script.mistakes.Goals.{in-Order, in-File+in-ok-push, in-Mistaken+in-ok-push-2}
+use Rattle.scripting.proofs.reading.Script.mistakes.Goals.{in-Order, in-File+in_ok-push-in-File, in-Mistaken+in_ok-push-in-Mistaken}
 
 pub loop-line-preserved : goal.loop-line-preserved
 loop-line-preserved c =
@@ -15,8 +15,8 @@ loop-line-preserved c =
     let new : vec_items c.match-line.all ≡ all ++ wrong x.number x.entry =
     elim c.match-line.branch [
       | in-Order w ↦ ap vec_items w.all-is ∙ sym (append-nil all) ∙ ap (λ e. all ++ wrong x.number e) (sym w.in-Order.is)
-      | in-File+in-ok-push w ↦ ap vec_items w.all-is ∙ w.in-ok-push.ensures.items ∙ ap (λ e. all ++ wrong x.number e) (sym w.in-File.is)
-      | in-Mistaken+in-ok-push-2 w ↦ ap vec_items w.all-is ∙ w.in-ok-push-2.ensures.items ∙ ap (λ e. all ++ wrong x.number e) (sym w.in-Mistaken.is)
+      | in-File+in_ok-push-in-File w ↦ ap vec_items w.all-is ∙ w.in_ok-push-in-File.ensures.items ∙ ap (λ e. all ++ wrong x.number e) (sym w.in-File.is)
+      | in-Mistaken+in_ok-push-in-Mistaken w ↦ ap vec_items w.all-is ∙ w.in_ok-push-in-Mistaken.ensures.items ∙ ap (λ e. all ++ wrong x.number e) (sym w.in-Mistaken.is)
     ] in
     one_line_more ls i x all (vec_items c.match-line.all) h c.line-item.is new c.loop-line.invariant
 
