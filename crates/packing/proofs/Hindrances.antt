@@ -2,13 +2,12 @@
 use Rattle.std.proofs.Common.{◌≡◌, ℕ, ◌<◌, ◌≤◌, ◌≢◌, List, length, sym, subst, inl, inr, arith}
 use native.Mathlib.Decide.{dec_lt}
 use Rattle.field.specs.FiniteField.{FiniteField}
-use Rattle.text.specs.Texts.{text_size}
 use Rattle.book.specs.Shelves.{empty, State, Place, entry, states_of, letters_of}
 use Rattle.book.specs.Calls.{load, reduce, compare, write}
 use Rattle.book.specs.Refusals.{refusal_number}
-use Rattle.book.specs.Refusing.{Meets, outside, short_memory, short_work, vacant, compare_letters, write_room, load_fault, Refuses, Accepts}
+use Rattle.book.specs.Refusing.{Meets, outside, short_memory, short_work, vacant, compare_letters, write_room, load_fault, Refuses}
 use Rattle.book.specs.declared.refusal.Refusal.{Refusal}
-use Rattle.book.specs.declared.refusal.Refusal.TheVariants.{MemoryShort, WorkShort, OutputShort, Unreadable}
+use Rattle.book.specs.declared.refusal.Refusal.TheVariants.{MemoryShort, WorkShort}
 use Rattle.book.proofs.OneRefusal.{high}
 use Rattle.packing.specs.Packing.{Reduction, Hindered, short_memory as no_memory, short_work as no_work, unreadable, short_output}
 

@@ -9,7 +9,7 @@ use Rattle.series.specs.Tables.{Table, Agree, SameTable}
 use Rattle.series.specs.Reducing.{residual, Leading, Reduced}
 use Rattle.series.proofs.SumLaws.{sum_same}
 use Rattle.columns.specs.Lines.{letter, line}
-use Rattle.text.specs.Texts.{codes, matrix_line, matrix_lines, body_of, text_of}
+use Rattle.text.specs.Texts.{codes, body_of, text_of}
 use Rattle.columns.specs.declared.line.Kind.TheVariants as kind
 use Rattle.text.proofs.Joins.{joined_same}
 

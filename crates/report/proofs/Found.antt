@@ -1,10 +1,8 @@
 -- What two loads and a compare find is what is told of the texts. Assumes nothing.
-use Rattle.std.proofs.Common.{◌≡◌, ℕ, ◌≤◌, ◌≢◌, List, length, sym, refl, ap, ◌∙◌, subst, inl, inr, arith}
+use Rattle.std.proofs.Common.{◌≡◌, ℕ, ◌≤◌, List, length, sym, refl, ap, ◌∙◌, subst, inl, inr, arith}
 use Rattle.field.specs.FiniteField.{FiniteField}
-use Rattle.series.specs.Tables.{Table, SameTable}
-use Rattle.text.specs.Texts.{text_of}
-use Rattle.text.specs.Readings.{Sized}
-use Rattle.book.specs.Shelves.{State, letters_of, entry, table}
+use Rattle.series.specs.Tables.{Table}
+use Rattle.book.specs.Shelves.{State, table}
 use Rattle.book.specs.Calls.{load, compare}
 use Rattle.book.specs.Refusing.{compare_letters}
 use Rattle.book.specs.Doing.{Makes, Does}

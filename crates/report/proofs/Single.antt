@@ -1,9 +1,8 @@
 -- Two texts have one line, and it begins with Q exactly where the tables weigh alike. Assumes nothing.
-use Rattle.std.proofs.Common.{◌≡◌, ℕ, ◌≢◌, ◌⊎◌, ◌↔◌, List, get_or, sym, refl, ap, ◌∙◌, subst, inl, inr, arith}
+use Rattle.std.proofs.Common.{◌≡◌, ℕ, ◌≢◌, List, get_or, sym, refl, ap, ◌∙◌, subst, inl, inr, arith}
 use Rattle.field.specs.FiniteField.{FiniteField}
-use Rattle.series.specs.Tables.{Table, SameTable, weight}
-use Rattle.series.specs.Words.{Word, Over}
-use Rattle.series.specs.Comparing.{Alike}
+use Rattle.series.specs.Tables.{Table, SameTable}
+use Rattle.series.specs.Words.{Over}
 use Rattle.series.proofs.Weights.{same_weight}
 use Rattle.text.specs.Readings.{Refuses}
 use Rattle.text.specs.Facts.{ToldApart, Decided}
@@ -11,9 +10,8 @@ use Rattle.faults.specs.declared.LoadFault.{LoadFault}
 use Rattle.book.specs.Verdicts.{Says}
 use Rattle.book.specs.declared.refusal.Refusal.TheVariants.{LettersDiffer, Unreadable}
 use Rattle.book.specs.declared.verdict.Verdict.{Verdict}
-use Rattle.book.proofs.Blocks.{same_sym}
 use Rattle.book.proofs.OneVerdict.{says_one}
-use Rattle.report.specs.Reports.{IsText, AreTexts, Tells, first_refused, second_refused, letters_differ, alike, different, refused_line, WeighAlike, OneLine, BeginsWhereAlike}
+use Rattle.report.specs.Reports.{IsText, Tells, first_refused, second_refused, letters_differ, alike, different, refused_line, WeighAlike, OneLine, BeginsWhereAlike}
 use Rattle.report.specs.Findings.{verdict_line}
 use Rattle.report.proofs.SameVerdicts.{says_same}
 

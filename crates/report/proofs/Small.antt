@@ -1,5 +1,5 @@
 -- The numbers of a verdict are small. Assumes nothing.
-use Rattle.std.proofs.Common.{◌≡◌, ℕ, zero, suc, ◌+◌, ◌-◌, ◌*◌, ◌^◌, ◌<◌, ◌≤◌, ◌⊎◌, ◌++◌, length, replicate, sym, refl, ap, ◌∙◌, subst₂, inl, inr, mul-le-mul, arith, length-append}
+use Rattle.std.proofs.Common.{◌≡◌, ℕ, zero, suc, ◌+◌, ◌-◌, ◌*◌, ◌^◌, ◌<◌, ◌≤◌, ◌⊎◌, length, replicate, refl, ap, ◌∙◌, subst₂, inl, inr, mul-le-mul, arith, length-append}
 use lib.ListN.{length-replicate}
 use Rattle.field.specs.FiniteField.{FiniteField}
 use Rattle.series.specs.Words.{Word, ◌≺◌}

@@ -1,5 +1,5 @@
 //! What is to be told of two texts of tables, as one line: whether they weigh every word alike, which word is the first
-//! that they do not, or why they cannot be compared. It is exported to C.
+//! that they do not, or why they cannot be compared. The crate `report_c` exports it to C.
 #![tactic(auto)]
 
 ghost use Rattle.std.specs.Prelude.{◌≡◌, ◌≤◌, ◌↔◌, length, slice_index};
@@ -20,8 +20,7 @@ use theorems::{one_line, q_where_alike};
 
 /// Reports on two texts over GF(65537): writes its line to the front of the output, and answers how many bytes it has.
 /// An output below 387 bytes, which not every line fits into, gives 0 before anything is read, and is left as it is.
-#[unsafe(no_mangle)]
-pub extern "C" fn report(first: &[u8], second: &[u8], out: &mut [u8]) -> usize
+pub fn report(first: &[u8], second: &[u8], out: &mut [u8]) -> usize
     ensures reports { Reports fermat first.now second.now out.old result out.new }
     ensures at_most_387 { result ≤ 387 }
     ensures q_exactly_where_alike { 387 ≤ length out.old → (slice_index out.new 0 ≡ 81) ↔ WeighAlike fermat first.now second.now }

@@ -1,4 +1,4 @@
-use Rattle.std.proofs.Common.{◌≡◌, ◌++◌, length, drop, sym, refl, ap, ◌∙◌, subst₂, arith}
+use Rattle.std.proofs.Common.{◌++◌, drop, sym, ap, ◌∙◌, subst₂, arith}
 use Rattle.report.specs.Reports.{Reports, no_room, told}
 use Rattle.report.specs.Findings.{finding_line}
 use Rattle.report.proofs.telling.tell.Goals as goal
