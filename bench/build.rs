@@ -1,17 +1,12 @@
 //! Compiles the plain C++ program, and links it and the verified library.
 
 use std::env;
-use std::path::{Path, PathBuf};
+use std::path::Path;
 use std::process::Command;
 
 fn run(program: &str, arguments: &[&str]) {
     let status = Command::new(program).args(arguments).status().expect(program);
     assert!(status.success(), "{program} failed");
-}
-
-/// The folder with librattle_c.a: `RATTLE_LIB`, or the toolchain's.
-fn toolchain_library() -> PathBuf {
-    env::var_os("RATTLE_LIB").map_or_else(|| PathBuf::from("/opt/rattle/lib"), PathBuf::from)
 }
 
 fn main() {
@@ -24,12 +19,9 @@ fn main() {
     assert!(library.is_file(), "{} is missing; run bench/run, which makes it", library.display());
     println!("cargo::rustc-link-search=native={out}");
     println!("cargo::rustc-link-search=native={verified}");
-    println!("cargo::rustc-link-search=native={}", toolchain_library().display());
     println!("cargo::rustc-link-lib=static=plain");
     println!("cargo::rustc-link-lib=static=report");
-    println!("cargo::rustc-link-lib=static=rattle_c");
     println!("cargo::rerun-if-changed=plain.cpp");
     println!("cargo::rerun-if-changed={}", library.display());
     println!("cargo::rerun-if-env-changed=REPORT_LIB");
-    println!("cargo::rerun-if-env-changed=RATTLE_LIB");
 }
