@@ -1,7 +1,8 @@
 /* Gorvaneth: sequence tables, compared. For C (from C99 on) and C++.
  *
- * Link libreport.a, which `rt staticlib report` writes to target/staticlib/, and beside it the toolchain's
- * librattle_c.a. The function allocates nothing, keeps nothing between calls, and writes nothing but the output.
+ * Link libreport.a, which `tools/build report` writes to target/staticlib/; beside it the archive needs only memcpy and
+ * memset, of the C library. The function allocates nothing, keeps nothing between calls, and writes nothing but the
+ * output.
  */
 #ifndef GORVANETH_H
 #define GORVANETH_H
