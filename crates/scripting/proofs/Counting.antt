@@ -1,7 +1,7 @@
 -- Words are not empty, and numbers only grow as they are read.
 use Rattle.std.proofs.Common.{◌≡◌, ℕ, zero, suc, ◌+◌, ◌-◌, ◌*◌, ◌<◌, ◌≤◌, List, [], ◌∷◌, length, get_or, take, drop, sym, ap, ◌∙◌, add-one, arith, length-drop, get_or-drop, drop-cons}
 use Rattle.std.proofs.lemmas.List.{take_all}
-use Rattle.scripting.specs.Splitting.{First, Begins, NextWord}
+use Rattle.scripting.specs.Splitting.{First, Begins}
 use Rattle.scripting.specs.Numerals.{read_on}
 
 -- a word that follows spaces has a byte

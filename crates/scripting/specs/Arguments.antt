@@ -1,5 +1,5 @@
 -- What a line says. Assumes nothing.
-use Rattle.std.specs.Prelude.{◌≡◌, ℕ, ◌<◌, ◌≤◌, ◌⊎◌, List, [], ◌∷◌, length, vec_items, slice_index}
+use Rattle.std.specs.Prelude.{◌≡◌, ℕ, ◌≤◌, ◌⊎◌, List, [], ◌∷◌, vec_items, slice_index}
 use Rattle.scripting.specs.Splitting.{Blank, NextWord}
 use Rattle.scripting.specs.Numerals.{Numbers}
 use Rattle.scripting.specs.Naming.{name_of}

@@ -1,5 +1,5 @@
 -- The calls of a script. Assumes nothing.
-use Rattle.std.specs.Prelude.{ℕ, vec_items}
+use Rattle.std.specs.Prelude.{vec_items}
 use Rattle.book.specs.Calls.{Call, load, sum, scale, multiply, after, turn, reduce, weigh, compare, write, clear}
 use Rattle.scripting.specs.declared.verb.Verb.{Verb}
 use Rattle.scripting.specs.declared.verb.Verb.TheVariants as verbs

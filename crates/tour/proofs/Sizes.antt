@@ -1,7 +1,6 @@
 -- A table within the limits fits into a place. Assumes nothing.
 use Rattle.std.proofs.Common.{ℕ, ◌+◌, ◌*◌, ◌≤◌, arith}
 use Rattle.std.proofs.lemmas.Nat.{mul-le}
-use Rattle.rows.specs.declared.layout.TableAt.{TableAt}
 use Rattle.rows.specs.Layout.{table_size}
 use Rattle.rows.specs.Tables.{Lies}
 

@@ -1,5 +1,5 @@
 -- Words as they are typed. Assumes nothing.
-use Rattle.std.specs.Prelude.{ℕ, ◌-◌, Bool, true, false, cond, nat_le}
+use Rattle.std.specs.Prelude.{ℕ, ◌-◌, cond, nat_le}
 
 -- the letter of a byte: a digit's number, and 0 for any other byte
 abbrev pub letter : ℕ → ℕ

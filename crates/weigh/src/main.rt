@@ -1,6 +1,8 @@
 //! Weighs words under the table in the file `table` of the current folder, a column text over GF(65537): reads a word
 //! from each line of standard input, its letters as digits, and prints it with the code of its weight, or with the first
 //! letter that the table lacks.
+#![tactic(auto)]
+
 ghost use Rattle.std.specs.Prelude.{◌≡◌, ◌+◌, ◌≤◌, map, length, IfOk, MatchResult};
 ghost use Rattle.series.specs.Tables.{weight};
 ghost use Rattle.rows.specs.Tables.{Lies, table_of};

@@ -1,4 +1,4 @@
-use Rattle.std.proofs.Common.{arith, rules}
+use Rattle.std.proofs.Common.{arith}
 use Rattle.tour.proofs.print_table.Goals as goal
 
 pub text_size-count-requires : goal.text_size-count-requires

@@ -1,4 +1,4 @@
-use Rattle.std.proofs.Common.{◌≡◌, ◌<◌, min, length, take, refl, subst, arith}
+use Rattle.std.proofs.Common.{◌≡◌, ◌<◌, length, take, refl, subst, arith}
 use Rattle.std.proofs.lemmas.List.{take_more}
 use Rattle.book.specs.Running.{Run}
 use Rattle.book.specs.Verdicts.{unwritten}

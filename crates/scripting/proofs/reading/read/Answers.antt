@@ -1,4 +1,4 @@
-use Rattle.std.proofs.Common.{◌≡◌, ◌+◌, ◌-◌, ◌<◌, length, take, drop, ap, arith, length-drop, false-eqb}
+use Rattle.std.proofs.Common.{◌+◌, length, ap, arith, length-drop, false-eqb}
 use Rattle.scripting.proofs.Counting.{tail_whole}
 use Rattle.scripting.proofs.reading.read.Goals as goal
 
