@@ -15,6 +15,7 @@ use packing::packed::Packed;
 use residue::{Bit, Fermat};
 use std::fs;
 use std::io::Write;
+use std::process::ExitCode;
 
 const HELP: &str = "usage: pack [--field Q] [FILE [OUT]]
 
@@ -130,12 +131,12 @@ fn run(rt: &HostRuntime) -> anyhow::Result<()> {
     Ok(())
 }
 
-fn main(rt: HostRuntime) -> anyhow::Result<()> {
+fn main(rt: HostRuntime) -> anyhow::Result<ExitCode> {
     match run(&rt) {
-        Ok(()) => Ok(()),
+        Ok(()) => Ok(ExitCode::SUCCESS),
         Err(e) => {
             eprintln!(rt; "pack: {e}")?;
-            Err(e)
+            Ok(ExitCode::FAILURE)
         }
     }
 }

@@ -2,11 +2,11 @@
 //! mistakes, they are told on standard error, and nothing is performed.
 #![tactic(auto)]
 
-use anyhow::anyhow;
 use scripting::performing::{Told, run};
 use scripting::reading::{Line, read};
 use std::fs;
 use std::io::{Read, Write};
+use std::process::ExitCode;
 
 // Reads the file that a line loads; where it cannot be read, the line is left to be told as a mistake.
 fn read_file(rt: &HostRuntime, line: &mut Line) {
@@ -19,7 +19,7 @@ fn read_file(rt: &HostRuntime, line: &mut Line) {
     }
 }
 
-fn main(rt: HostRuntime) -> anyhow::Result<()> {
+fn main(rt: HostRuntime) -> anyhow::Result<ExitCode> {
     let mut bytes = Vec::new(rt.alloc());
     rt.stdin().read_to_end(&mut bytes)?;
     let mut script = read(rt.alloc(), bytes.as_slice())?;
@@ -31,11 +31,11 @@ fn main(rt: HostRuntime) -> anyhow::Result<()> {
     match run(rt.alloc(), &script)? {
         Told::Shown(shown) => {
             rt.stdout().write_all(shown.as_slice())?;
-            Ok(())
+            Ok(ExitCode::SUCCESS)
         }
         Told::Mistaken(mistakes) => {
             rt.stderr().write_all(mistakes.as_slice())?;
-            Err(anyhow!("the script has mistakes"))
+            Ok(ExitCode::FAILURE)
         }
     }
 }

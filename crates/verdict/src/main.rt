@@ -10,6 +10,7 @@ use command::offered::Offered;
 use command::wish::{Wish, asked_for, name_or};
 use report::{report, report_bits, report_bytes};
 use std::io::Write;
+use std::process::ExitCode;
 
 const HELP: &str = "usage: verdict [--field Q] [FIRST SECOND]
 
@@ -81,12 +82,12 @@ fn run(rt: &HostRuntime) -> anyhow::Result<()> {
     Ok(())
 }
 
-fn main(rt: HostRuntime) -> anyhow::Result<()> {
+fn main(rt: HostRuntime) -> anyhow::Result<ExitCode> {
     match run(&rt) {
-        Ok(()) => Ok(()),
+        Ok(()) => Ok(ExitCode::SUCCESS),
         Err(e) => {
             eprintln!(rt; "verdict: {e}")?;
-            Err(e)
+            Ok(ExitCode::FAILURE)
         }
     }
 }

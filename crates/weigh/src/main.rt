@@ -9,7 +9,6 @@ ghost use Rattle.rows.specs.Tables.{Lies, table_of};
 ghost use Rattle.rows.specs.Weighing.{FirstOutside};
 ghost use Rattle.weigh.specs.Letters.{letter};
 
-use anyhow::anyhow;
 use faults::{LineFault, LoadFault};
 use field::Field;
 use residue::Fermat;
@@ -17,6 +16,7 @@ use rows::layout::TableAt;
 use rows::weighing::weigh;
 use std::alloc::{AllocError, Global};
 use std::fs;
+use std::process::ExitCode;
 use text::table::read_table;
 
 // The letter of a byte: a digit's number, and 0, which is no letter of any table, for any other byte.
@@ -75,13 +75,13 @@ fn reason(fault: &LoadFault) -> &'static str {
 }
 
 // Tells where and why the table is refused.
-fn refuse(rt: &HostRuntime, fault: &LoadFault) -> anyhow::Result<()> {
+fn refuse(rt: &HostRuntime, fault: &LoadFault) -> anyhow::Result<ExitCode> {
     let (line, column) = fault.position();
     eprintln!(rt; "table: line {line}, column {column}: {}", reason(fault))?;
-    Err(anyhow!("the table is refused"))
+    Ok(ExitCode::FAILURE)
 }
 
-fn main(rt: HostRuntime) -> anyhow::Result<()> {
+fn main(rt: HostRuntime) -> anyhow::Result<ExitCode> {
     let text = fs::read(&rt, "table")?;
     let mut memory = [Fermat::zero(); 1568];
     let shape = match read_table(text.as_slice(), &mut memory) {
@@ -105,5 +105,5 @@ fn main(rt: HostRuntime) -> anyhow::Result<()> {
             }
         }
     }
-    Ok(())
+    Ok(ExitCode::SUCCESS)
 }
