@@ -10,9 +10,9 @@ use Rattle.book.specs.Verdicts.{Says}
 use Rattle.residue.specs.Delivered.{fermat}
 use Rattle.figures.specs.Examples.{of_codes, fibonacci_with, fibonacci, multiplier, word_of, lines}
 
-pub record WorkedFigures (inverse-of-83 half : ℕ) (fibonacci-weights square-row : List ℕ) (tried kept : ℕ) : Type 0 where
+pub record WorkedFigures (inverse_of_83 half : ℕ) (fibonacci_weights square_row : List ℕ) (tried kept : ℕ) : Type 0 where
   -- GF(256): 83 and its inverse
-  pub byte_inverse : bytes.code (bytes.times (bytes.decode 83) (bytes.decode inverse-of-83)) ≡ 1
+  pub byte_inverse : bytes.code (bytes.times (bytes.decode 83) (bytes.decode inverse_of_83)) ≡ 1
   -- GF(256): a product
   pub byte_product : bytes.code (bytes.times (bytes.decode 87) (bytes.decode 131)) ≡ 193
   -- GF(65537): the inverse of 2
@@ -20,7 +20,7 @@ pub record WorkedFigures (inverse-of-83 half : ℕ) (fibonacci-weights square-ro
   -- GF(65537): the largest code, squared
   pub residue_square : fermat.code (fermat.times (fermat.decode 65536) (fermat.decode 65536)) ≡ 1
   -- the codes of what the words of 0 to 4 letters weigh under the Fibonacci table
-  pub fibonacci_weighs : map (λ n. fermat.code (weight fermat fibonacci (word_of n))) (0 ∷ 1 ∷ 2 ∷ 3 ∷ 4 ∷ []) ≡ fibonacci-weights
+  pub fibonacci_weighs : map (λ n. fermat.code (weight fermat fibonacci (word_of n))) (0 ∷ 1 ∷ 2 ∷ 3 ∷ 4 ∷ []) ≡ fibonacci_weights
   -- the Fibonacci table is its own reduced form
   pub fibonacci_reduced : Reduced fermat 1 (weight fermat fibonacci) fibonacci
   -- with an end column of zeros, its reduced form has no states
@@ -29,7 +29,7 @@ pub record WorkedFigures (inverse-of-83 half : ℕ) (fibonacci-weights square-ro
   pub square_states : (product_table fermat fibonacci fibonacci).states ≡ 4
   -- and its reduced form 3
   pub square_reduced : Reduced fermat 1 (weight fermat (product_table fermat fibonacci fibonacci))
-      (of_codes (1 ∷ 0 ∷ 0 ∷ []) ((0 ∷ 1 ∷ 0 ∷ []) ∷ (0 ∷ 0 ∷ 1 ∷ []) ∷ square-row ∷ []) (0 ∷ 1 ∷ 1 ∷ []))
+      (of_codes (1 ∷ 0 ∷ 0 ∷ []) ((0 ∷ 1 ∷ 0 ∷ []) ∷ (0 ∷ 0 ∷ 1 ∷ []) ∷ square_row ∷ []) (0 ∷ 1 ∷ 1 ∷ []))
   -- the verdict on the Fibonacci table and itself
   pub itself_compared : Says fermat fibonacci fibonacci (record { kind = 0; tried = tried; kept = kept; length = 0; first = 0; second = 0; letters = replicate 31 0 })
   -- the text of the table of one state that multiplies by 1, which is within the limits of a text
