@@ -3,3 +3,4 @@ pub mod Sums
 pub mod Layouts
 pub mod Words
 pub mod Tables
+pub mod Slices

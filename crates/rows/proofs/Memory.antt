@@ -64,11 +64,11 @@ module _ {F V : Type 0} (K : FiniteField V) (v : F → V) where
   at_kept (x ∷ xs) (y ∷ ys) zero n e = ap v (e x)
   at_kept (x ∷ xs) (y ∷ ys) (suc k) n e = at_kept xs ys k (omega arith) e
 
-  at_set_same : (xs : List F) (k : ℕ) (x : F) → k < length xs → at K v (set xs k x) k ≡ v x
+  pub at_set_same : (xs : List F) (k : ℕ) (x : F) → k < length xs → at K v (set xs k x) k ≡ v x
   at_set_same xs k x l =
       get_or-map v (set xs k x) k x K.zero (simp length-set (omega arith)) ∙ ap v (get_or-set_same xs k x x l)
 
-  at_set_other : (xs : List F) (i k : ℕ) (x : F) → k ≢ i → at K v (set xs i x) k ≡ at K v xs k
+  pub at_set_other : (xs : List F) (i k : ℕ) (x : F) → k ≢ i → at K v (set xs i x) k ≡ at K v xs k
   at_set_other xs i k x l = at_kept xs (set xs i x) k (length-set xs i x) (λ d. get_or-set_other xs i k x d l)
 
   pub frame_below : {a n : ℕ} {xs ys : List F} → Frame a n xs ys → (k : ℕ) → k < a → at K v ys k ≡ at K v xs k

@@ -5,4 +5,6 @@
 pub mod arithmetic;
 pub mod blocks;
 pub mod layout;
+pub mod row;
+pub mod table;
 pub mod weighing;

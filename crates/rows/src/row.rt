@@ -1,0 +1,75 @@
+//! Arithmetic on rows: each row, column and matrix is a slice of its own.
+ghost use Rattle.std.specs.Prelude.{◌≡◌, ℕ, ◌+◌, ◌*◌, ◌<◌, length, MatchOption};
+ghost use Rattle.series.specs.Tables.{dot as product, move, Agree};
+ghost use Rattle.rows.specs.Memory.{at, square_at};
+ghost use Rattle.rows.specs.Seen.{RowOf};
+ghost use Rattle.rows.specs.Arithmetic.{less_multiple, multiple, FirstNonzero};
+
+use field::Field;
+
+/// The row times the column of `ys` whose elements lie `step` apart from `column` on.
+pub fn dot<F: Field>(row: &[F], ys: &[F], column: usize, step: usize) -> F
+    requires column_within { (i : ℕ) → i < length row.now → column + i * step < length ys.now }
+    ensures is_dot_product { F.value result ≡ product F.field (length row.now) (at F.field F.value row.now) (λ i. at F.field F.value ys.now (column + i * step)) }
+{
+    let mut sum = F::zero();
+    for (i, x) in row.iter().enumerate() {
+        sum = sum.add(x.mul(ys[column + i * step]));
+    }
+    sum
+}
+
+/// Writes to `to` the row times the matrix of as many rows and columns.
+pub fn row_times_matrix<F: Field>(row: &[F], matrix: &[F], to: &mut [F])
+    requires square { length matrix.now ≡ length row.now * length row.now }
+    requires as_long { length to.old ≡ length row.now }
+    ensures product_written { RowOf F.field F.value (length row.now) (move F.field (length row.now) (square_at F.field F.value matrix.now 0 (length row.now)) (at F.field F.value row.now)) to.new }
+{
+    for (j, x) in to.iter_mut().enumerate() {
+        *x = dot(row, matrix, j, row.len());
+    }
+}
+
+/// Writes to `to` the matrix of as many rows and columns times the column.
+pub fn matrix_times_column<F: Field>(matrix: &[F], column: &[F], to: &mut [F])
+    requires square { length matrix.now ≡ length column.now * length column.now }
+    requires as_long { length to.old ≡ length column.now }
+    ensures product_written { RowOf F.field F.value (length column.now) (λ i. product F.field (length column.now) (square_at F.field F.value matrix.now 0 (length column.now) i) (at F.field F.value column.now)) to.new }
+{
+    let n = column.len();
+    for (i, x) in to.iter_mut().enumerate() {
+        *x = dot(&matrix[i * n..i * n + n], column, 0, 1);
+    }
+}
+
+/// Takes `factor` times another row from the row.
+pub fn subtract_multiple<F: Field>(row: &mut [F], factor: F, other: &[F])
+    requires as_long { length other.now ≡ length row.old }
+    ensures difference_written { RowOf F.field F.value (length row.old) (less_multiple F.field (at F.field F.value row.old) (F.value factor) (at F.field F.value other.now)) row.new }
+{
+    for (j, x) in row.iter_mut().enumerate() {
+        *x = x.add(factor.mul(other[j]).neg());
+    }
+}
+
+/// Multiplies the row by `factor`.
+pub fn scale_row<F: Field>(row: &mut [F], factor: F)
+    ensures multiple_written { RowOf F.field F.value (length row.old) (multiple F.field (F.value factor) (at F.field F.value row.old)) row.new }
+{
+    for x in row.iter_mut() {
+        *x = factor.mul(*x);
+    }
+}
+
+/// The first column of the row that is not zero.
+pub fn first_nonzero<F: Field>(row: &[F]) -> Option<usize>
+    ensures first_or_all_zero { MatchOption result (Agree (length row.now) (at F.field F.value row.now) (λ _. F.field.zero)) (λ p. FirstNonzero F.field (length row.now) (at F.field F.value row.now) p) }
+{
+    let zero = F::zero();
+    for (j, x) in row.iter().enumerate() {
+        if !x.same(zero) {
+            return Some(j);
+        }
+    }
+    None
+}

@@ -1,0 +1,140 @@
+//! Tables in lent memory: their shape, and a table seen whole and by its parts.
+ghost use Rattle.std.specs.Prelude.{◌≡◌, ◌*◌, ◌<◌, ◌≤◌, length, ⊤};
+ghost use Rattle.rows.specs.Layout.{table_size};
+
+use field::Field;
+use std::alloc::AllocError;
+
+/// How many states and letters a table has: from 0 to 16 states and from 1 to 6 letters; no other shape can be made.
+#[derive(Clone, Copy, Debug, PartialEq, Eq)]
+pub struct Shape {
+    states: usize,
+    letters: usize,
+    ghost few_states: { states ≤ 16 },
+    ghost some_letter: { 1 ≤ letters },
+    ghost few_letters: { letters ≤ 6 },
+}
+
+impl Shape {
+    pub fn new(states: usize, letters: usize) -> Shape
+        requires states_within { states ≤ 16 }
+        requires letters_within { (1 ≤ letters) × (letters ≤ 6) }
+        ensures of_states { result.states ≡ states }
+        ensures of_letters { result.letters ≡ letters }
+    {
+        Shape { states, letters }
+    }
+
+    pub fn states(self) -> usize
+        ensures told { result ≡ self.states }
+        ensures at_most_16 { result ≤ 16 }
+    {
+        self.states
+    }
+
+    pub fn letters(self) -> usize
+        ensures told { result ≡ self.letters }
+        ensures from_1_to_6 { (1 ≤ result) × (result ≤ 6) }
+    {
+        self.letters
+    }
+
+    /// How many elements a table of this shape takes.
+    pub fn size(self) -> usize
+        ensures is_table_size { result ≡ table_size self.states self.letters }
+        ensures at_most_1568 { result ≤ 1568 }
+    {
+        self.states + self.letters * (self.states * self.states) + self.states
+    }
+}
+
+/// The elements of a table, from its start row to its end column, and its shape.
+pub struct TableRef<'a, F> {
+    elements: &'a [F],
+    shape: Shape,
+    ghost whole: { length elements.now ≡ table_size shape.states shape.letters },
+}
+
+impl<'a, F> Clone for TableRef<'a, F> {
+    ghost is_clone = { λ t r. r ≡ t };
+
+    ghost is_infallible = { λ _. ⊤ };
+
+    fn clone(&self) -> Result<TableRef<'a, F>, AllocError> {
+        Ok(*self)
+    }
+}
+
+impl<'a, F> Copy for TableRef<'a, F> {}
+
+impl<'a, F: Field> TableRef<'a, F> {
+    ghost use Rattle.rows.specs.Seen.{table_of, RowOf, SquareOf};
+
+    pub fn new(elements: &'a [F], shape: Shape) -> TableRef<'a, F>
+        requires whole { length elements.now ≡ table_size shape.states shape.letters }
+        ensures of_shape { result.shape ≡ shape }
+        ensures of_elements { result.elements.now ≡ elements.now }
+    {
+        TableRef { elements, shape }
+    }
+
+    pub fn shape(self) -> Shape
+        ensures told { result ≡ self.entry.shape }
+    {
+        self.shape
+    }
+
+    pub fn states(self) -> usize
+        ensures told { result ≡ self.entry.shape.states }
+        ensures at_most_16 { result ≤ 16 }
+    {
+        self.shape.states
+    }
+
+    pub fn letters(self) -> usize
+        ensures told { result ≡ self.entry.shape.letters }
+        ensures from_1_to_6 { (1 ≤ result) × (result ≤ 6) }
+    {
+        self.shape.letters
+    }
+
+    /// All its elements.
+    pub fn elements(self) -> &'a [F]
+        ensures told { result.now ≡ self.entry.elements.now }
+        ensures whole { length result.now ≡ table_size self.entry.shape.states self.entry.shape.letters }
+    {
+        self.elements
+    }
+
+    pub fn start(self) -> &'a [F]
+        ensures start_row { RowOf F.field F.value self.entry.shape.states (table_of F.field F.value self.entry).start result.now }
+    {
+        &self.elements[0..self.shape.states]
+    }
+
+    pub fn matrix(self, letter: usize) -> &'a [F]
+        requires letter_of_table { (1 ≤ letter) × (letter ≤ self.shape.letters) }
+        ensures matrix_of_letter { SquareOf F.field F.value self.entry.shape.states ((table_of F.field F.value self.entry).step letter) result.now }
+    {
+        let n = self.shape.states;
+        let from = n + (letter - 1) * (n * n);
+        &self.elements[from..from + n * n]
+    }
+
+    /// A row, from 0, of the matrix of a letter.
+    pub fn matrix_row(self, letter: usize, row: usize) -> &'a [F]
+        requires letter_of_table { (1 ≤ letter) × (letter ≤ self.shape.letters) }
+        requires row_of_table { row < self.shape.states }
+        ensures row_of_matrix { RowOf F.field F.value self.entry.shape.states ((table_of F.field F.value self.entry).step letter row) result.now }
+    {
+        let n = self.shape.states;
+        &self.matrix(letter)[row * n..row * n + n]
+    }
+
+    pub fn end(self) -> &'a [F]
+        ensures end_column { RowOf F.field F.value self.entry.shape.states (table_of F.field F.value self.entry).end result.now }
+    {
+        let n = self.shape.states;
+        &self.elements[n + self.shape.letters * (n * n)..]
+    }
+}
