@@ -1,9 +1,9 @@
 -- Rows and matrices in a part of a slice. Assumes nothing.
-use Rattle.std.proofs.Common.{◌≡◌, ℕ, ◌+◌, ◌-◌, ◌*◌, ◌<◌, ◌≤◌, List, map, length, take, drop, get_or, set, sym, refl, ap, ◌∙◌, arith, below_more}
+use Rattle.std.proofs.Common.{◌≡◌, ℕ, ◌+◌, ◌-◌, ◌*◌, ◌<◌, ◌≤◌, List, map, length, take, drop, get_or, set, sym, refl, ap, ◌∙◌, subst, arith, below_more}
 use Rattle.std.proofs.lemmas.List.{length-set, length-take-le, length-drop, get_or-take, get_or-drop, take-map, drop-map}
 use Rattle.std.proofs.lemmas.Nat.{mul-add-lt}
 use Rattle.field.specs.FiniteField.{FiniteField}
-use Rattle.series.specs.Tables.{Agree, dot}
+use Rattle.series.specs.Tables.{Agree, dot, move}
 use Rattle.rows.specs.Memory.{at, row_at, square_at}
 use Rattle.rows.specs.Seen.{RowOf, SquareOf}
 use Rattle.rows.proofs.Memory.{at_set_same, at_set_other}
@@ -60,3 +60,22 @@ module _ {F V : Type 0} (K : FiniteField V) (v : F → V) where
   dot_part a b n xs y w h =
       ap (λ m. dot K m (at K v (take (b - a) (drop a xs))) y) (length_part a b xs (omega arith) h ∙ omega arith)
       ∙ dot_same K n (λ i l. at_part K v a b xs i (omega arith)) (λ i l. refl)
+
+  -- a row times a matrix, by what the two slices hold
+  pub move_seen : (n : ℕ) {x : ℕ → V} {m : ℕ → ℕ → V} {row matrix to : List F} → RowOf K v n x row → SquareOf K v n m matrix
+      → RowOf K v (length row) (move K (length row) (square_at K v matrix 0 (length row)) (at K v row)) to → RowOf K v n (move K n m x) to
+  move_seen n {x} {m} {row} {matrix} {to} r s p =
+      let q : RowOf K v n (move K n (square_at K v matrix 0 n) (at K v row)) to = subst (λ k. RowOf K v k (move K k (square_at K v matrix 0 k) (at K v row)) to) r.len p in
+      record { len = q.len; same = λ j l. q.same j l ∙ dot_same K n r.same (λ i h. s.same i h j l) }
+
+  -- a matrix times a column, by what the two slices hold
+  pub product_seen : (n : ℕ) {x : ℕ → V} {m : ℕ → ℕ → V} {column matrix to : List F} → SquareOf K v n m matrix → RowOf K v n x column
+      → RowOf K v (length column) (λ i. dot K (length column) (square_at K v matrix 0 (length column) i) (at K v column)) to → RowOf K v n (λ i. dot K n (m i) x) to
+  product_seen n {x} {m} {column} {matrix} {to} s r p =
+      let q : RowOf K v n (λ i. dot K n (square_at K v matrix 0 n i) (at K v column)) to = subst (λ k. RowOf K v k (λ i. dot K k (square_at K v matrix 0 k i) (at K v column)) to) r.len p in
+      record { len = q.len; same = λ i l. q.same i l ∙ dot_same K n (s.same i l) r.same }
+
+  -- a row times a column, by what the two slices hold
+  pub dot_seen : (n : ℕ) {x y : ℕ → V} {row column : List F} → RowOf K v n x row → RowOf K v n y column → dot K (length row) (at K v row) (λ i. at K v column (0 + i * 1)) ≡ dot K n x y
+  dot_seen n {x} {y} {row} {column} r s =
+      ap (λ k. dot K k (at K v row) (λ i. at K v column (0 + i * 1))) r.len ∙ dot_same K n r.same (λ i l. ap (at K v column) (omega arith) ∙ s.same i l)

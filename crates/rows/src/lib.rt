@@ -8,3 +8,4 @@ pub mod layout;
 pub mod row;
 pub mod table;
 pub mod weighing;
+pub mod weight;

@@ -1,5 +1,5 @@
 //! Tables in lent memory: their shape, and a table seen whole and by its parts.
-ghost use Rattle.std.specs.Prelude.{◌≡◌, ◌*◌, ◌<◌, ◌≤◌, length, ⊤};
+ghost use Rattle.std.specs.Prelude.{◌≡◌, ◌*◌, ◌<◌, ◌≤◌, length, MatchOption, ⊤};
 ghost use Rattle.rows.specs.Layout.{table_size};
 
 use field::Field;
@@ -96,6 +96,17 @@ impl<'a, F: Field> TableRef<'a, F> {
         ensures from_1_to_6 { (1 ≤ result) × (result ≤ 6) }
     {
         self.shape.letters
+    }
+
+    /// The letter of a byte, if it is one of the table's.
+    pub fn letter(self, byte: u8) -> Option<usize>
+        ensures one_of_the_letters { MatchOption result ((1 ≤ byte) × (byte ≤ self.entry.shape.letters) → ⊥) (λ a. (a ≡ byte) × (1 ≤ a) × (a ≤ self.entry.shape.letters)) }
+    {
+        let letter = usize::from(byte);
+        if letter < 1 || letter > self.shape.letters {
+            return None;
+        }
+        Some(letter)
     }
 
     /// All its elements.

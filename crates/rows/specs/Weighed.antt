@@ -1,0 +1,11 @@
+-- What weighing a word answers. Assumes nothing.
+use Rattle.std.specs.Prelude.{◌≡◌, ℕ, Result, MatchResult}
+use Rattle.field.specs.FiniteField.{FiniteField}
+use Rattle.series.specs.Words.{Word, Over}
+use Rattle.series.specs.Tables.{Table, weight}
+use Rattle.rows.specs.declared.weight.LetterOutside.{LetterOutside}
+use Rattle.rows.specs.Weighing.{FirstOutside}
+
+-- the weight of a word over the table's letters, or its first letter that the table lacks
+abbrev pub Weighed : {F V : Type 0} → FiniteField V → (F → V) → Table V → Word → Result F LetterOutside → Type 0
+Weighed K value T w r = MatchResult r (λ x. Over T.letters w × (value x ≡ weight K T w)) (λ e. FirstOutside T.letters w e.position)
