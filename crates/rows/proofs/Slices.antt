@@ -3,7 +3,9 @@ use Rattle.std.proofs.Common.{◌≡◌, ℕ, ◌+◌, ◌-◌, ◌*◌, ◌<◌
 use Rattle.std.proofs.lemmas.List.{length-set, length-take-le, length-drop, get_or-take, get_or-drop, take-map, drop-map}
 use Rattle.std.proofs.lemmas.Nat.{mul-add-lt}
 use Rattle.field.specs.FiniteField.{FiniteField}
-use Rattle.series.specs.Tables.{Agree, dot, move}
+use Rattle.series.specs.Tables.{Agree, dot, move, SameTable}
+use Rattle.rows.specs.Layout.{table_size, table_at}
+use Rattle.rows.proofs.Layouts.{matrix_within}
 use Rattle.rows.specs.Memory.{at, row_at, square_at}
 use Rattle.rows.specs.Seen.{RowOf, SquareOf}
 use Rattle.rows.proofs.Memory.{at_set_same, at_set_other}
@@ -79,3 +81,18 @@ module _ {F V : Type 0} (K : FiniteField V) (v : F → V) where
   pub dot_seen : (n : ℕ) {x y : ℕ → V} {row column : List F} → RowOf K v n x row → RowOf K v n y column → dot K (length row) (at K v row) (λ i. at K v column (0 + i * 1)) ≡ dot K n x y
   dot_seen n {x} {y} {row} {column} r s =
       ap (λ k. dot K k (at K v row) (λ i. at K v column (0 + i * 1))) r.len ∙ dot_same K n r.same (λ i l. ap (at K v column) (omega arith) ∙ s.same i l)
+
+  -- a part as a table
+  pub table_part : (base b n k : ℕ) (xs : List F) → base + table_size n k ≡ b → SameTable (table_at K v (take (b - base) (drop base xs)) 0 n k) (table_at K v xs base n k)
+  table_part base b n k xs w =
+      let e : (i j : ℕ) → base + i < b → base + i ≡ j → at K v (take (b - base) (drop base xs)) i ≡ at K v xs j = λ i j l s. at_part K v base b xs i l ∙ ap (at K v xs) s in
+      record {
+        states = refl;
+        letters = refl;
+        start = λ i p. e (0 + i) (base + i) (omega arith) (omega arith);
+        step = λ a low high i p j q.
+            let inner = mul-add-lt i n j n p q in
+            let outer = matrix_within a k (n * n) low high in
+            e (0 + n + (a - 1) * (n * n) + (i * n + j)) (base + n + (a - 1) * (n * n) + (i * n + j)) (omega arith) (omega arith);
+        end = λ i p. e (0 + n + k * (n * n) + i) (base + n + k * (n * n) + i) (omega arith) (omega arith);
+      }

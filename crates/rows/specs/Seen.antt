@@ -1,4 +1,4 @@
--- Rows, matrices and tables that whole slices hold. Assumes nothing.
+-- Tables seen in memory, and the rows and matrices that whole slices hold. Assumes nothing.
 use Rattle.std.specs.Prelude.{◌≡◌, ℕ, ◌*◌, ◌<◌, List, length}
 use Rattle.field.specs.FiniteField.{FiniteField}
 use Rattle.series.specs.Tables.{Table, Agree}
@@ -8,7 +8,7 @@ use Rattle.rows.specs.Layout.{table_at}
 
 -- the table that t shows
 abbrev pub table_of : {F V : Type 0} → FiniteField V → (F → V) → TableRef F → Table V
-table_of K value t = table_at K value t.elements.now 0 t.shape.states t.shape.letters
+table_of K value t = table_at K value t.memory.now t.base t.shape.states t.shape.letters
 
 -- xs has n elements, with the values of the row x
 pub record RowOf {F V : Type 0} (K : FiniteField V) (value : F → V) (n : ℕ) (x : ℕ → V) (xs : List F) : Type 0 where

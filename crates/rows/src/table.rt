@@ -1,5 +1,5 @@
 //! Tables in lent memory: their shape, and a table seen whole and by its parts.
-ghost use Rattle.std.specs.Prelude.{◌≡◌, ◌*◌, ◌<◌, ◌≤◌, length, MatchOption, ⊤};
+ghost use Rattle.std.specs.Prelude.{◌≡◌, ◌+◌, ◌*◌, ◌<◌, ◌≤◌, length, MatchOption, ⊤};
 ghost use Rattle.rows.specs.Layout.{table_size};
 
 use field::Field;
@@ -48,11 +48,13 @@ impl Shape {
     }
 }
 
-/// The elements of a table, from its start row to its end column, and its shape.
+/// A table of a shape that lies in memory from the element `base` on: its start row, its matrices by letter and then by
+/// row, and its end column.
 pub struct TableRef<'a, F> {
-    elements: &'a [F],
+    memory: &'a [F],
+    base: usize,
     shape: Shape,
-    ghost whole: { length elements.now ≡ table_size shape.states shape.letters },
+    ghost within: { base + table_size shape.states shape.letters ≤ length memory.now },
 }
 
 impl<'a, F> Clone for TableRef<'a, F> {
@@ -68,14 +70,34 @@ impl<'a, F> Clone for TableRef<'a, F> {
 impl<'a, F> Copy for TableRef<'a, F> {}
 
 impl<'a, F: Field> TableRef<'a, F> {
+    ghost use Rattle.series.specs.Tables.{SameTable};
     ghost use Rattle.rows.specs.Seen.{table_of, RowOf, SquareOf};
+    ghost use Rattle.rows.specs.Layout.{table_at};
 
-    pub fn new(elements: &'a [F], shape: Shape) -> TableRef<'a, F>
-        requires whole { length elements.now ≡ table_size shape.states shape.letters }
+    /// The table at the front of memory.
+    pub fn new(memory: &'a [F], shape: Shape) -> TableRef<'a, F>
+        requires whole { table_size shape.states shape.letters ≤ length memory.now }
         ensures of_shape { result.shape ≡ shape }
-        ensures of_elements { result.elements.now ≡ elements.now }
+        ensures in_front { (result.memory.now ≡ memory.now) × (result.base ≡ 0) }
     {
-        TableRef { elements, shape }
+        TableRef {
+            memory,
+            base: 0,
+            shape,
+        }
+    }
+
+    /// The table that begins at the element `base`.
+    pub fn at(memory: &'a [F], base: usize, shape: Shape) -> TableRef<'a, F>
+        requires within { base + table_size shape.states shape.letters ≤ length memory.now }
+        ensures of_shape { result.shape ≡ shape }
+        ensures lies_there { (result.memory.now ≡ memory.now) × (result.base ≡ base) }
+    {
+        TableRef {
+            memory,
+            base,
+            shape,
+        }
     }
 
     pub fn shape(self) -> Shape
@@ -111,16 +133,16 @@ impl<'a, F: Field> TableRef<'a, F> {
 
     /// All its elements.
     pub fn elements(self) -> &'a [F]
-        ensures told { result.now ≡ self.entry.elements.now }
         ensures whole { length result.now ≡ table_size self.entry.shape.states self.entry.shape.letters }
+        ensures same_table { SameTable (table_at F.field F.value result.now 0 self.entry.shape.states self.entry.shape.letters) (table_of F.field F.value self.entry) }
     {
-        self.elements
+        &self.memory[self.base..self.base + self.shape.size()]
     }
 
     pub fn start(self) -> &'a [F]
         ensures start_row { RowOf F.field F.value self.entry.shape.states (table_of F.field F.value self.entry).start result.now }
     {
-        &self.elements[0..self.shape.states]
+        &self.memory[self.base..self.base + self.shape.states]
     }
 
     pub fn matrix(self, letter: usize) -> &'a [F]
@@ -128,8 +150,8 @@ impl<'a, F: Field> TableRef<'a, F> {
         ensures matrix_of_letter { SquareOf F.field F.value self.entry.shape.states ((table_of F.field F.value self.entry).step letter) result.now }
     {
         let n = self.shape.states;
-        let from = n + (letter - 1) * (n * n);
-        &self.elements[from..from + n * n]
+        let from = self.base + n + (letter - 1) * (n * n);
+        &self.memory[from..from + n * n]
     }
 
     /// A row, from 0, of the matrix of a letter.
@@ -146,6 +168,7 @@ impl<'a, F: Field> TableRef<'a, F> {
         ensures end_column { RowOf F.field F.value self.entry.shape.states (table_of F.field F.value self.entry).end result.now }
     {
         let n = self.shape.states;
-        &self.elements[n + self.shape.letters * (n * n)..]
+        let from = self.base + n + self.shape.letters * (n * n);
+        &self.memory[from..from + n]
     }
 }

@@ -1,8 +1,8 @@
-use Rattle.std.proofs.Common.{refl, arith}
+use Rattle.std.proofs.Common.{◌+◌, refl, arith}
 use Rattle.rows.proofs.Slices.{row_part}
 use Rattle.rows.proofs.table.TableRef.start.Goals as goal
 
 pub returns : goal.returns
 returns g c =
-    let K = g.F.Field.field in let v = g.F.Field.value in
-    record { start_row = row_part K v 0 c.args.self.shape.states c.args.self.shape.states _ c.args.self.elements.now (omega arith) (omega arith) (λ i l. refl) }
+    let t = c.args.self in
+    record { start_row = row_part g.F.Field.field g.F.Field.value t.base (t.base + t.shape.states) t.shape.states _ t.memory.now refl (omega (arith, t.within)) (λ i l. refl) }
