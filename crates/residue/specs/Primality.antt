@@ -32,10 +32,10 @@ whole_by p b root two t d h l z =
     let f : ℕ = p / d in
     let parts : d * f ≡ p = omega (arith, div-add-mod p d) in
     let not_none : f ≡ 0 → ⊥ = λ e. let q : d * 0 ≡ p = subst (λ n. d * n ≡ p) e parts in omega (arith, mul-zero d) in
-    let not-one : f ≡ 1 → ⊥ = λ e. let q : d * 1 ≡ p = subst (λ n. d * n ≡ p) e parts in omega (arith, mul-one d) in
+    let not_one : f ≡ 1 → ⊥ = λ e. let q : d * 1 ≡ p = subst (λ n. d * n ≡ p) e parts in omega (arith, mul-one d) in
     let below : f < b = ⊎_elim (λ y. y) (λ y. let big : b * b ≤ d * f = mul-le-mul more y in let no_way : ⊥ = omega arith in absurd no_way) (cases_lt f b) in
-    let zero-f : p % f ≡ 0 = subst (λ n. n % f ≡ 0) parts (ap (λ n. n % f) (mul_comm d f) ∙ mul-mod_right f d) in
-    small f (omega arith) below zero-f)
+    let zero_f : p % f ≡ 0 = subst (λ n. n % f ≡ 0) parts (ap (λ n. n % f) (mul_comm d f) ∙ mul-mod_right f d) in
+    small f (omega arith) below zero_f)
     (cases_lt d b)
   where
     small : (e : ℕ) → 2 ≤ e → e < b → p % e ≢ 0
