@@ -10,7 +10,7 @@ use Rattle.series.specs.Families.{Of, Independent}
 use Rattle.series.specs.Fresh.{Earlier, Fresh}
 use Rattle.series.proofs.Words.{over_append, over_prefix, over_rest, over_decide}
 use Rattle.series.proofs.Lists.{Among, among_map, among_map_back}
-use Rattle.series.proofs.Orders.{≺-push, ≺-shorter, ≺-transitive, ≺-compare, ≺-induction}
+use Rattle.series.proofs.Orders.{≺-push, ≺-shorter, ≺-transitive, ≺-compare, ≺-induction, same_before}
 use Rattle.series.proofs.WordLists.{smaller, smaller_has, smaller_are, least, upto, upto_has, listed_decidable}
 use Rattle.series.proofs.SpanLaws.{span_same, span_member, span_span, span_more, span_zero, span_fewer}
 use Rattle.series.proofs.LinearMaps.{Linear, span_map}
@@ -56,7 +56,7 @@ module _ {V : Type 0} (K : FiniteField V) {X : Type 0} (P : X → Type 0) (k : �
     fresh_span = ≺-induction (λ w. Over k w → Span K P (FreshUpto w) (vector w)) (λ w before o. go w before o (decide_earlier w))
       where
         wider : (u w : Word) → u ≺ w → (x : X → V) → FreshUpto u x → FreshUpto w x
-        wider u w l x m = (m.0, m.1, inr (elim m.2 [ inl e ↦ subst (λ v. v ≺ w) (sym e) l | inr g ↦ ≺-transitive m.0 u w g l ]), m.3)
+        wider u w l x m = (m.0, m.1, inr (elim m.2 [ inl e ↦ same_before _ e l | inr g ↦ ≺-transitive m.0 u w g l ]), m.3)
 
         go : (w : Word) → ((u : Word) → u ≺ w → Over k u → Span K P (FreshUpto u) (vector u)) → Over k w → Dec (Span K P (Earlier k vector w) (vector w))
             → Span K P (FreshUpto w) (vector w)
@@ -68,7 +68,7 @@ module _ {V : Type 0} (K : FiniteField V) {X : Type 0} (P : X → Type 0) (k : �
     earlier_fresh w s = span_span K P (λ x m. span_same K P x (λ i h. ap (λ v. v i) m.3) (span_more K P (wider m.0 m.1) (fresh_span m.0 m.2))) s
       where
         wider : (u : Word) → u ≺ w → (x : X → V) → FreshUpto u x → EarlierFresh w x
-        wider u l x m = (m.0, elim m.2 [ inl e ↦ subst (λ v. v ≺ w) (sym e) l | inr g ↦ ≺-transitive m.0 u w g l ], m.1, m.3)
+        wider u l x m = (m.0, elim m.2 [ inl e ↦ same_before _ e l | inr g ↦ ≺-transitive m.0 u w g l ], m.1, m.3)
 
   -- a letter more acts linearly
   module _ (step : ℕ → (X → V) → X → V) (linear : (a : ℕ) → Over k (a ∷ []) → Linear K P P (step a)) (next : (w : Word) (a : ℕ) (i : X) → P i → vector (w ++ a ∷ []) i ≡ step a (vector w) i) where
@@ -124,7 +124,7 @@ module _ {V : Type 0} (K : FiniteField V) {X : Type 0} (P : X → Type 0) (k : �
       where
         up : (v : Word) → ((u : Word) → u ≺ v → Over k u → φ (vector u) tt ≡ 𝟘) → φ (vector w) tt ≢ 𝟘 → (v ≺ w) ⊎ ((v ≡ w) ⊎ (w ≺ v)) → v ≺ x
         up v before f (inl a) = ≺-transitive v w x a l
-        up v before f (inr (inl e)) = subst (λ u. u ≺ x) (sym e) l
+        up v before f (inr (inl e)) = same_before _ e l
         up v before f (inr (inr a)) = absurd (f (before w a o))
 
 -- the places are the numbers below d

@@ -5,7 +5,7 @@ use native.Mathlib.Nat.{suc_inj}
 use Rattle.series.specs.Words.{Word, Over, ◌≺◌}
 use Rattle.series.specs.Listing.{Count}
 use Rattle.series.proofs.Lists.{Among, among_left, among_right, among_either, among_map, among_map_back, those, among_those, among_those_back, find}
-use Rattle.series.proofs.Orders.{≺-compare, ≺-transitive, ≺-decide, ≺-induction, no_longer}
+use Rattle.series.proofs.Orders.{≺-compare, ≺-transitive, ≺-decide, ≺-induction, no_longer, before_same}
 
 letters : ℕ → List ℕ
 letters zero = []
@@ -122,11 +122,11 @@ insert x [] a = record { list = x ∷ []; ascends = ((λ v h. absurd h), tt); fr
 insert x (y ∷ ys) a = go (≺-compare x y) (insert x ys a.1)
   where
     go : (x ≺ y) ⊎ ((x ≡ y) ⊎ (y ≺ x)) → Sorted (x ∷ ys) → Sorted (x ∷ y ∷ ys)
-    go (inl l) r = record { list = x ∷ y ∷ ys; ascends = (λ v. elim [ inl e ↦ subst (λ w. x ≺ w) (sym e) l | inr h ↦ ≺-transitive x y v l (a.0 v h) ], a); from = λ v h. h; to = λ v h. h }
+    go (inl l) r = record { list = x ∷ y ∷ ys; ascends = (λ v. elim [ inl e ↦ before_same _ l (sym e) | inr h ↦ ≺-transitive x y v l (a.0 v h) ], a); from = λ v h. h; to = λ v h. h }
     go (inr (inl e)) r = record { list = y ∷ ys; ascends = a; from = λ v h. inr h; to = λ v. elim [ inl q ↦ inl (q ∙ e) | inr h ↦ h ] }
     go (inr (inr g)) r = record {
       list = y ∷ r.list;
-      ascends = ((λ v h. elim (r.from v h) [ inl e ↦ subst (λ w. y ≺ w) (sym e) g | inr q ↦ a.0 v q ]), r.ascends);
+      ascends = ((λ v h. elim (r.from v h) [ inl e ↦ before_same _ g (sym e) | inr q ↦ a.0 v q ]), r.ascends);
       from = λ v. elim [ inl e ↦ inr (inl e) | inr h ↦ elim (r.from v h) [ inl e ↦ inl e | inr q ↦ inr (inr q) ] ];
       to = λ v. elim [ inl e ↦ inr (r.to v (inl e)) | inr (inl e) ↦ inl e | inr (inr h) ↦ inr (r.to v (inr h)) ];
     }
