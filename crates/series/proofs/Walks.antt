@@ -8,6 +8,7 @@ use Rattle.series.specs.Comparing.{Followed}
 use Rattle.series.specs.WalkProgress.{Scanned, Upto}
 use Rattle.series.proofs.Words.{last_letter, over_rest}
 use Rattle.series.proofs.Orders.{≺-transitive, ≺-compare, ≺-push, ≺-last, ≺-push-back, ≺-longer, ≺-nonempty, both_ways, same_not, ≺-induction, none_before, same_before, before_same}
+use Rattle.series.proofs.Places.{below_next}
 use Rattle.series.proofs.Listings.{number_less, listed_upto, followed_list, followed_at, listed_followed}
 
 module _ (Good : Word → Type 0) where
@@ -85,26 +86,16 @@ module _ (k : ℕ) (Good : Word → Type 0) (over : (w : Word) → Good w → Ov
   -- x is looked at, and is good
   pub scan_add : (n : ℕ) (words more : ℕ → Word) (x : Word) → Scanned Good n words x → Good x → ((i : ℕ) → i < n → more i ≡ words i) → more n ≡ x → Upto Good (suc n) more x
   scan_add n words more x s g same here = record {
-    ascends = λ i j l b. rises i j l (ℕ_discrete j n) b;
-    good = λ i b. goods i (ℕ_discrete i n) b;
-    before = λ i b. befores i (ℕ_discrete i n) b;
+    ascends = λ i j l b. below_next (λ m. i < m → more i ≺ more m) n
+        (λ m h g. same_before _ (same i (omega arith)) (before_same _ (s.ascends i m g h) (sym (same m h))))
+        (λ g. before_same _ (old i g) (sym here)) j b l;
+    good = below_next (λ i. Good (more i)) n (λ i b. subst Good (sym (same i b)) (s.good i b)) (subst Good (sym here) g);
+    before = below_next (λ i. (more i ≺ x) ⊎ (more i ≡ x)) n (λ i b. inl (old i b)) (inr here);
     whole = λ v h. elim [ inl l ↦ (let r = s.whole v h l in (r.0, omega arith, r.2 ∙ sym (same r.0 r.1))) | inr e ↦ (n, omega arith, e ∙ sym here) ];
   }
     where
       old : (i : ℕ) → i < n → more i ≺ x
       old i b = same_before _ (same i b) (s.before i b)
-
-      rises : (i j : ℕ) → i < j → Dec (j ≡ n) → j < suc n → more i ≺ more j
-      rises i j l (yes e) b = before_same _ (old i (omega arith)) (sym (ap more e ∙ here))
-      rises i j l (no u) b = same_before _ (same i (omega arith)) (before_same _ (s.ascends i j l (omega arith)) (sym (same j (omega arith))))
-
-      goods : (i : ℕ) → Dec (i ≡ n) → i < suc n → Good (more i)
-      goods i (yes e) b = subst Good (sym (ap more e ∙ here)) g
-      goods i (no u) b = subst Good (sym (same i (omega arith))) (s.good i (omega arith))
-
-      befores : (i : ℕ) → Dec (i ≡ n) → i < suc n → (more i ≺ x) ⊎ (more i ≡ x)
-      befores i (yes e) b = inr (ap more e ∙ here)
-      befores i (no u) b = inl (old i (omega arith))
 
   -- on to y, if no good word stands between
   onward : (n : ℕ) (words : ℕ → Word) (x y : Word) → Upto Good n words x → x ≺ y → ((v : Word) → Good v → x ≺ v → v ≺ y → ⊥) → Scanned Good n words y
