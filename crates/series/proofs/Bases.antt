@@ -8,9 +8,10 @@ use Rattle.series.specs.Families.{Of}
 use Rattle.series.specs.Fresh.{Fresh}
 use Rattle.series.specs.WalkProgress.{Scanned}
 use Rattle.series.specs.EliminationProgress.{Echelon, Basis}
+use Rattle.series.proofs.Differences.{take_back}
 use Rattle.series.proofs.Lists.{Among}
 use Rattle.series.proofs.Places.{below_next}
-use Rattle.series.proofs.SpanLaws.{span_same, span_member, span_plus, span_times, span_span, span_more}
+use Rattle.series.proofs.SpanLaws.{span_same, span_is, span_member, span_plus, span_times, span_span, span_more}
 use Rattle.series.proofs.FreshWords.{EarlierFresh, earlier_fresh}
 use Rattle.series.proofs.Echelons.{no_divisors, echelon_in, echelon_out, echelon_more}
 
@@ -66,16 +67,13 @@ module _ {V : Type 0} (K : FiniteField V) {X : Type 0} (P : X → Type 0) where
         steps : {v : X → V} → Span K P (Of n xs) v → Span K P (Of (suc n) xs') v
         steps t = span_span K P (λ v m. span_same K P v (λ i q. ap (λ w. w i) m.2 ∙ sym (olds m.0 m.1 i q)) (span_member K P (m.0, omega arith, refl))) t
 
-        back : (a b : V) → a ⊕ neg 𝟙 ⊗ (a ⊕ neg b) ≡ b
-        back a b = simp (ring, K)
-
         whole : (a b : V) → b ⊕ (a ⊕ neg b) ≡ a
         whole a b = simp (ring, K)
 
         left : Span K P (Of (suc n) (λ i. vector (words' i))) y
-        left = span_same K P y (λ i q. sym (back (vector x i) (y i)))
+        left = span_same K P y (λ i q. sym (take_back K (vector x i) (y i)))
             (span_plus K P (span_member K P (n, omega arith, ap vector (sym here)))
-            (span_times K P (neg 𝟙) (rows (span_span K P (λ v m. span_same K P v (λ i q. ap (λ w. w i) m.2) (B.from m.0 m.1)) s))))
+            (span_times K P (neg 𝟙) (rows (span_span K P (λ v m. span_is K P m.2 (B.from m.0 m.1)) s))))
 
         right : Span K P (Of (suc n) xs') (vector x)
         right = span_same K P (vector x) (λ i q. sym (whole (vector x i) (y i))) (span_plus K P (span_same K P y (λ i q. sym (heres i q)) (span_member K P (n, omega arith, refl))) (steps s))
@@ -103,10 +101,10 @@ module _ {V : Type 0} (K : FiniteField V) {X : Type 0} (P : X → Type 0) where
         (s : Span K P (Of n xs) (λ i. vector x i ⊕ neg (y i))) where
       pub basis_not_fresh : ((q : X) → P q → y q ≡ 𝟘) → ¬ (Fresh K P k vector x)
       basis_not_fresh z h = h.1 (span_more K P (λ v m. (words m.0, S.before m.0 m.1, (S.good m.0 m.1).0, m.2))
-          (span_span K P (λ v m. span_same K P v (λ i q. ap (λ w. w i) m.2) (B.from m.0 m.1)) (echelon_in K P n xs (vector x) y s z)))
+          (span_span K P (λ v m. span_is K P m.2 (B.from m.0 m.1)) (echelon_in K P n xs (vector x) y s z)))
 
       pub basis_fresh : (qs : List X) → ((i : X) → P i → Among qs i) → ((i : X) → Among qs i → P i) → Over k x → ((i : ℕ) → i < n → y (at i) ≡ 𝟘) → (q : X) → P q → y q ≢ 𝟘 → Fresh K P k vector x
       basis_fresh qs to of o gone q p u = (o, λ t. u (echelon_out K P n xs at B.stairs (vector x) y s gone (span_span K P through (earlier_fresh K P k vector qs to of x t)) q p))
         where
           through : (v : X → V) → EarlierFresh K P k vector x v → Span K P (Of n xs) v
-          through v m = let r = S.whole m.0 m.2 m.1 in span_same K P v (λ i h. ap (λ w. w i) (m.3 ∙ ap vector r.2)) (B.to r.0 r.1)
+          through v m = let r = S.whole m.0 m.2 m.1 in span_is K P (m.3 ∙ ap vector r.2) (B.to r.0 r.1)

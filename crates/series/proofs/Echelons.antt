@@ -6,6 +6,7 @@ use Rattle.field.proofs.Laws.{zero_times, times_zero, ring}
 use Rattle.series.specs.Spans.{Span}
 use Rattle.series.specs.Families.{Of, mix, Independent}
 use Rattle.series.specs.EliminationProgress.{Echelon}
+use Rattle.series.proofs.Differences.{take_back}
 use Rattle.series.proofs.SumLaws.{sum_zero, sum_one}
 use Rattle.series.proofs.SpanLaws.{span_same, span_plus, span_times}
 use Rattle.series.proofs.Families.{span_mix, independent_few}
@@ -66,10 +67,7 @@ module _ {V : Type 0} (K : FiniteField V) where
 
     pub echelon_out : (n : ℕ) (xs : ℕ → X → V) (at : ℕ → X) → Echelon K P n xs at → (x y : X → V) → Span K P (Of n xs) (λ i. x i ⊕ neg (y i)) → ((i : ℕ) → i < n → y (at i) ≡ 𝟘)
         → Span K P (Of n xs) x → (q : X) → P q → y q ≡ 𝟘
-    echelon_out n xs at E x y s z t = echelon_zero n xs at E y (span_same K P y (λ q p. sym (back (x q) (y q))) (span_plus K P t (span_times K P (neg 𝟙) s))) z
-      where
-        back : (a b : V) → a ⊕ neg 𝟙 ⊗ (a ⊕ neg b) ≡ b
-        back a b = simp (ring, K)
+    echelon_out n xs at E x y s z t = echelon_zero n xs at E y (span_same K P y (λ q p. sym (take_back K (x q) (y q))) (span_plus K P t (span_times K P (neg 𝟙) s))) z
 
   pub echelon_few : (d n : ℕ) (xs : ℕ → ℕ → V) (at : ℕ → ℕ) → Echelon K (λ i. i < d) n xs at → n ≤ d
   echelon_few d n xs at E = independent_few K d n xs (echelon_independent (λ i. i < d) n xs at E)

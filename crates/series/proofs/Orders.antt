@@ -36,6 +36,10 @@ same_before w e l = subst (λ x. x ≺ w) (sym e) l
 pub before_same : (u : Word) {v w : Word} → u ≺ v → v ≡ w → u ≺ w
 before_same u l e = subst (λ x. u ≺ x) e l
 
+pub upto_before : (t u w : Word) → (t ≡ u) ⊎ (t ≺ u) → u ≺ w → t ≺ w
+upto_before t u w (inl e) l = same_before w e l
+upto_before t u w (inr g) l = ≺-transitive t u w g l
+
 pub both_ways : (u v : Word) → u ≺ v → v ≺ u → ⊥
 both_ways u v l g = ≺-irreflexive u (≺-transitive u v u l g)
 

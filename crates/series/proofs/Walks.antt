@@ -1,6 +1,6 @@
 -- A walk through the words that looks at the words u a, for each u that it has found, in their order. Assumes nothing.
 use Rattle.std.proofs.Common.{◌≡◌, ℕ, suc, ◌+◌, ◌*◌, ◌<◌, ◌≤◌, ◌⊎◌, [], ◌∷◌, ◌++◌, sym, ap, ◌∙◌, subst, inl, inr, arith}
-use native.Mathlib.Decide.{dec_lt, ℕ_discrete}
+use native.Mathlib.Decide.{dec_lt}
 use Rattle.std.proofs.lemmas.Nat.{mul-le}
 use Rattle.series.specs.Words.{Word, Over, ◌≺◌}
 use Rattle.series.specs.Listing.{Listed}
