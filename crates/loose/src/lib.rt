@@ -9,7 +9,8 @@ ghost use Rattle.residue.specs.Residues.{residue_of, residues};
 use field::Field;
 use residue::{PrimeModulus, Residue};
 
-/// Stands for the residue of n: n, n + P, n + 2P and so on are elements of one value.
+/// Stands for the residue of n: n, n + P, n + 2P and so on are elements of one value. So it derives no equality, which
+/// would tell them apart.
 #[derive(Clone, Copy, Debug)]
 pub struct Loose<const P: u32> {
     n: u64,

@@ -94,6 +94,7 @@ where
         u64::from(self.n)
     }
 
+    // An `if` and not `then`: no proof is made of a call whose closure returns a type with a parameter.
     fn from_code(n: u64) -> Option<Residue<P>> {
         if n < Self::order() {
             Some(Residue { n: n as u32 })
