@@ -1,7 +1,7 @@
 -- The turns of the loops of `product` and `inverse`. Assumes nothing.
-use Rattle.std.proofs.Common.{◌≡◌, ℕ, suc, ◌+◌, ◌-◌, ◌*◌, ◌/◌, ◌%◌, ◌<◌, ◌≤◌, sym, refl, ap, ◌∙◌, mod-eq_of_lt, arith}
+use Rattle.std.proofs.Common.{◌≡◌, ℕ, suc, ◌+◌, ◌-◌, ◌*◌, ◌/◌, ◌%◌, ◌<◌, ◌≤◌, sym, ap, ◌∙◌, mod-eq_of_lt, arith}
 use lib.Bits.{bit_xor, xor_assoc, xor_zero_r}
-use Rattle.byte.specs.Product.{raised, partial, product, power, inverse_of}
+use Rattle.byte.specs.Product.{raised, partial, product, power}
 
 raised_is : (x : ℕ) → x < 256 → bit_xor (x % 128 * 2) (x / 128 * 27) ≡ raised x
 raised_is x h = let bit : x / 128 < 2 = omega arith in ap (λ z. bit_xor (x % 128 * 2) (z * 27)) (sym (mod-eq_of_lt bit))
@@ -14,10 +14,6 @@ turn i sum x y h fits =
     ∙ ap (λ z. bit_xor sum (bit_xor (y % 2 * x) (partial (8 - (i + 1)) z (y / 2)))) (raised_is x fits)
     ∙ ap (λ k. bit_xor sum (partial k x y)) more
 
-pub start : (a b : ℕ) → bit_xor 0 (partial 8 a b) ≡ product a b
-unfolding product
-start a b = refl
-
 pub ends : (i sum x y : ℕ) → 8 ≤ i → bit_xor sum (partial (8 - i) x y) ≡ sum
 ends i sum x y h = let none : 8 - i ≡ 0 = omega arith in ap (λ k. bit_xor sum (partial k x y)) none ∙ xor_zero_r sum
 
@@ -26,10 +22,6 @@ unfolding power
 power_turn i r s t u h et eu =
     let more : suc (7 - (i + 1)) ≡ 7 - i = omega arith in
     ap (λ z. power (7 - (i + 1)) z t) (eu ∙ ap (product r) et) ∙ ap (λ z. power (7 - (i + 1)) (product r (product s s)) z) et ∙ ap (λ k. power k r s) more
-
-pub power_start : (a : ℕ) → power 7 1 a ≡ inverse_of a
-unfolding inverse_of
-power_start a = refl
 
 pub power_ends : (i r s : ℕ) → 7 ≤ i → power (7 - i) r s ≡ r
 unfolding power

@@ -9,7 +9,7 @@ ghost use Rattle.byte.specs.Bytes.{bytes};
 use field::Field;
 
 /// An element of GF(256). Every byte is one.
-#[derive(Clone, Copy)]
+#[derive(Clone, Copy, PartialEq, Eq, Debug)]
 pub struct Byte {
     n: u8,
     ghost below: { n < 256 },
@@ -22,12 +22,20 @@ fn product(a: u8, b: u8) -> u8
     let mut sum = 0;
     let mut x = a;
     let mut y = b;
-    for _i in 0..8u8 {
+    for _ in 0..8u8 {
         sum ^= y % 2 * x;
         x = (x % 128 * 2) ^ (x / 128 * 27);
         y /= 2;
     }
     sum
+}
+
+impl From<u8> for Byte {
+    ghost from_gives = { λ n x. x.n ≡ n };
+
+    fn from(n: u8) -> Byte {
+        Byte { n }
+    }
 }
 
 impl Field for Byte {
@@ -46,9 +54,7 @@ impl Field for Byte {
     }
 
     fn add(self, other: Byte) -> Byte {
-        Byte {
-            n: self.n ^ other.n,
-        }
+        Byte::from(self.n ^ other.n)
     }
 
     fn neg(self) -> Byte {
@@ -56,9 +62,7 @@ impl Field for Byte {
     }
 
     fn mul(self, other: Byte) -> Byte {
-        Byte {
-            n: product(self.n, other.n),
-        }
+        Byte::from(product(self.n, other.n))
     }
 
     fn inverse(self) -> Option<Byte> {
@@ -68,15 +72,15 @@ impl Field for Byte {
         // The power 254, as the product of the powers 2, 4, .. 128.
         let mut r = 1;
         let mut s = self.n;
-        for _i in 0..7u8 {
+        for _ in 0..7u8 {
             s = product(s, s);
             r = product(r, s);
         }
-        Some(Byte { n: r })
+        Some(Byte::from(r))
     }
 
     fn same(self, other: Byte) -> bool {
-        self.n == other.n
+        self == other
     }
 
     fn code(self) -> u64 {
@@ -84,11 +88,8 @@ impl Field for Byte {
     }
 
     fn from_code(n: u64) -> Option<Byte> {
-        if n < 256 {
-            Some(Byte { n: n as u8 })
-        } else {
-            None
-        }
+        let n = u8::try_from(n).ok()?;
+        Some(Byte::from(n))
     }
 
     fn order() -> u64 {

@@ -1,6 +1,6 @@
 -- What the laws of a field give, and the rules by which `simp (ring, K)` closes a ring identity. Assumes nothing.
 use Rattle.std.proofs.Common.{◌≡◌, ◌≢◌, sym, ap, ◌∙◌, ap₂}
-use native.Mathlib.Decide.{ℕ_discrete}
+use native.Mathlib.Decide.{ℕ_discrete, map_dec}
 use Rattle.field.specs.FiniteField.{FiniteField}
 
 module _ {V : Type 0} (K : FiniteField V) where
@@ -101,11 +101,7 @@ module _ {V : Type 0} (K : FiniteField V) where
   code_only x y e = sym (K.decode_code x) ∙ ap K.decode e ∙ K.decode_code y
 
   pub same? : Discrete V
-  same? x y = go (ℕ_discrete (K.code x) (K.code y))
-    where
-      go : Dec (K.code x ≡ K.code y) → Dec (x ≡ y)
-      go (yes e) = yes (code_only x y e)
-      go (no u) = no (λ e. u (ap K.code e))
+  same? x y = map_dec (code_only x y) (ap K.code) (ℕ_discrete (K.code x) (K.code y))
 
 -- `simp (ring, K)` brings both sides of an equation to sums of products, sorted
 pub ruleset ring = (plus_opposite, plus_opposite_left, plus_around, plus_around_more, neg_plus, neg_neg, neg_zero, neg_times, times_neg, times_plus, plus_times, times_zero, zero_times, times_one, one_times, zero_plus, plus_zero, plus_assoc, times_assoc, plus_comm, plus_left_comm, times_comm, times_left_comm)

@@ -24,8 +24,8 @@ mod tests {
 
     // Checks rows of two codes with the codes of their sum and product.
     fn check_rows<F: Field>(rt: &impl Abort, rows: &[[u64; 4]]) {
-        for row in rows {
-            assert_eq!(rt; combined::<F>(row[0], row[1]), Some((row[2], row[3])));
+        for &[a, b, sum, product] in rows {
+            assert_eq!(rt; combined::<F>(a, b), Some((sum, product)));
         }
     }
 
@@ -34,12 +34,12 @@ mod tests {
         assert_eq!(rt; F::order(), order);
         assert_eq!(rt; F::zero().code(), 0);
         assert_eq!(rt; F::one().code(), 1);
-        for code in codes {
-            let x = F::from_code(*code).ok_or("a code below the order is refused")?;
-            assert_eq!(rt; x.code(), *code);
+        for &code in codes {
+            let x = F::from_code(code).ok_or("a code below the order is refused")?;
+            assert_eq!(rt; x.code(), code);
             assert!(rt; x.add(x.neg()).same(F::zero()));
             match x.inverse() {
-                None => assert_eq!(rt; *code, 0),
+                None => assert_eq!(rt; code, 0),
                 Some(y) => assert!(rt; x.mul(y).same(F::one())),
             }
         }
@@ -91,9 +91,7 @@ mod tests {
     fn several_elements_of_one_value(rt: HostRuntime) -> Result<(), Fail> {
         check_codes::<Loose<65537>>(&rt, 65537, &[0, 1, 2, 65536])?;
         let one = Loose::<65537>::one();
-        let Some(last) = Loose::<65537>::from_code(65536) else {
-            return Err(Fail::new("the largest code is refused"));
-        };
+        let last = Loose::<65537>::from_code(65536).ok_or("the largest code is refused")?;
         let again = last.add(one).add(one);
         assert!(rt; again.same(one));
         assert_eq!(rt; again.code(), 1);

@@ -5,9 +5,9 @@ use Rattle.field.specs.Below.{Below, same_below}
 use Rattle.residue.specs.Prime.{Prime}
 use Rattle.residue.specs.Residues.{residue_of, residue_zero, inverse_of}
 
-module _ {p : ℕ} (pr : Prime p) (n : ℕ) (x : Below p) (read : x ≡ residue_of p pr (n % p)) where
+module _ {p : ℕ} (pr : Prime p) (n : ℕ) (x : Below p) (code : ℕ) (is : code ≡ n % p) (read : x ≡ residue_of p pr code) where
   pub reads : residue_of p pr n ≡ x
-  reads = same_below _ _ (sym (mod-mod n p)) ∙ sym read
+  reads = same_below _ _ (sym (mod-mod n p) ∙ ap (λ m. m % p) (sym is)) ∙ sym read
 
   pub no_inverse : x ≡ residue_zero p pr → residue_of p pr n ≡ residue_zero p pr
   no_inverse z = reads ∙ z

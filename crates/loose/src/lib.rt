@@ -9,11 +9,24 @@ ghost use Rattle.residue.specs.Residues.{residue_of, residues};
 use field::Field;
 use residue::{PrimeModulus, Residue};
 
-/// Stands for the residue of n: n, n + P, n + 2P and so on are elements of one value.
-#[derive(Clone, Copy)]
+/// Stands for the residue of n: n, n + P, n + 2P and so on are elements of one value. So it derives no equality, which
+/// would tell them apart.
+#[derive(Clone, Copy, Debug)]
 pub struct Loose<const P: u32> {
     n: u64,
     ghost small: { n < 4294967296 },
+}
+
+// A reduced residue is an element.
+impl<const P: u32> From<Residue<P>> for Loose<P>
+where
+    Residue<P>: PrimeModulus<P>,
+{
+    ghost from_gives = { λ x y. y.n ≡ x.n };
+
+    fn from(x: Residue<P>) -> Loose<P> {
+        Loose { n: x.code() }
+    }
 }
 
 impl<const P: u32> Field for Loose<P>
@@ -39,42 +52,41 @@ where
         if sum < 4294967296 {
             Loose { n: sum }
         } else {
-            Loose { n: sum % P as u64 }
+            Loose {
+                n: sum % Self::order(),
+            }
         }
     }
 
     fn neg(self) -> Loose<P> {
         Loose {
-            n: P as u64 - self.n % P as u64,
+            n: Self::order() - self.code(),
         }
     }
 
     fn mul(self, other: Loose<P>) -> Loose<P> {
         Loose {
-            n: self.n * other.n % P as u64,
+            n: self.n * other.n % Self::order(),
         }
     }
 
     fn inverse(self) -> Option<Loose<P>> {
-        let reduced = Residue::<P>::from_code(self.n % P as u64)?;
+        let reduced = Residue::<P>::from_code(self.code())?;
         let found = reduced.inverse()?;
-        Some(Loose { n: found.code() })
+        Some(Loose::from(found))
     }
 
     fn same(self, other: Loose<P>) -> bool {
-        self.n % P as u64 == other.n % P as u64
+        self.code() == other.code()
     }
 
     fn code(self) -> u64 {
-        self.n % P as u64
+        self.n % Self::order()
     }
 
     fn from_code(n: u64) -> Option<Loose<P>> {
-        if n < P as u64 {
-            Some(Loose { n })
-        } else {
-            None
-        }
+        let reduced = Residue::from_code(n)?;
+        Some(Loose::from(reduced))
     }
 
     fn order() -> u64 {

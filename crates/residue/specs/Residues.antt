@@ -24,7 +24,7 @@ onward p pr x a r w more =
     (omega arith, within, mod-lt (p / r * (p - a)) pos, inverse_step p x a r (omega arith) pos w.3 ∙ mod-eq_of_lt within)
 
 find : (p : ℕ) → Prime p → (x k a r : ℕ) → OnWay p x a r → r ≤ k → (y : ℕ) × ((y * x) % p ≡ 1)
-find p pr x zero a r w h = let no_way : ⊥ = omega arith in absurd no_way
+find p pr x zero a r w h = absurd (omega arith)
 find p pr x (suc k) a r w h =
     ⊎_elim
     (λ one. (a, w.3 ∙ one))

@@ -5,7 +5,7 @@ ghost use Rattle.std.specs.Prelude.{◌≡◌, ℕ, ◌<◌, ◌≤◌};
 ghost use Rattle.field.specs.Below.{Below};
 ghost use Rattle.residue.specs.Prime.{Prime};
 ghost use Rattle.residue.specs.Residues.{residues};
-ghost use Rattle.residue.specs.Primality.{prime_by};
+ghost use Rattle.residue.specs.Delivered.{prime_2, prime_65537};
 
 use field::Field;
 
@@ -21,15 +21,15 @@ pub trait PrimeModulus<const P: u32> {
 }
 
 impl PrimeModulus<2> for Residue<2> {
-    ghost prime = { prime_by 2 2 tt tt tt tt tt };
+    ghost prime = { prime_2 };
 }
 
 impl PrimeModulus<65537> for Residue<65537> {
-    ghost prime = { prime_by 65537 257 tt tt tt tt tt };
+    ghost prime = { prime_65537 };
 }
 
 /// A number below P. The field is private, so no other number can be made an element.
-#[derive(Clone, Copy)]
+#[derive(Clone, Copy, PartialEq, Eq, Debug)]
 pub struct Residue<const P: u32> {
     n: u32,
     ghost below: { n < P },
@@ -67,7 +67,7 @@ where
 
     fn mul(self, other: Residue<P>) -> Residue<P> {
         Residue {
-            n: (self.n as u64 * other.n as u64 % P as u64) as u32,
+            n: (self.code() * other.code() % Self::order()) as u32,
         }
     }
 
@@ -76,9 +76,9 @@ where
             return None;
         }
         // a times self leaves r; since P is prime, r falls to 1.
-        let p = P as u64;
+        let p = Self::order();
         let mut a = 1;
-        let mut r = self.n as u64;
+        let mut r = self.code();
         while r > 1 {
             a = p / r * (p - a) % p;
             r = p % r;
@@ -87,15 +87,16 @@ where
     }
 
     fn same(self, other: Residue<P>) -> bool {
-        self.n == other.n
+        self == other
     }
 
     fn code(self) -> u64 {
         u64::from(self.n)
     }
 
+    // An `if` and not `then`: no proof is made of a call whose closure returns a type with a parameter.
     fn from_code(n: u64) -> Option<Residue<P>> {
-        if n < P as u64 {
+        if n < Self::order() {
             Some(Residue { n: n as u32 })
         } else {
             None

@@ -1,6 +1,5 @@
 -- A walk through the words that keeps the vectors of the words found in echelon form. Assumes nothing.
 use Rattle.std.proofs.Common.{◌≡◌, ℕ, suc, ◌<◌, ◌≢◌, List, sym, refl, ap, ◌∙◌, ap₂, arith}
-use native.Mathlib.Decide.{ℕ_discrete}
 use Rattle.field.specs.FiniteField.{FiniteField}
 use Rattle.field.proofs.Laws.{times_zero, one_times, ring}
 use Rattle.series.specs.Spans.{Span, none}
@@ -9,8 +8,10 @@ use Rattle.series.specs.Families.{Of}
 use Rattle.series.specs.Fresh.{Fresh}
 use Rattle.series.specs.WalkProgress.{Scanned}
 use Rattle.series.specs.EliminationProgress.{Echelon, Basis}
+use Rattle.series.proofs.Differences.{take_back}
 use Rattle.series.proofs.Lists.{Among}
-use Rattle.series.proofs.SpanLaws.{span_same, span_member, span_plus, span_times, span_span, span_more}
+use Rattle.series.proofs.Places.{below_next}
+use Rattle.series.proofs.SpanLaws.{span_same, span_is, span_member, span_plus, span_times, span_span, span_more}
 use Rattle.series.proofs.FreshWords.{EarlierFresh, earlier_fresh}
 use Rattle.series.proofs.Echelons.{no_divisors, echelon_in, echelon_out, echelon_more}
 
@@ -30,13 +31,10 @@ module _ {V : Type 0} (K : FiniteField V) {X : Type 0} (P : X → Type 0) where
   clear_step n xs at E t l x y z c s gone pick is = (
     span_same K P (λ i. x i ⊕ neg (z i)) (λ q p. ap (λ v. x q ⊕ neg v) (is q p) ∙ simp (ring, K))
         (span_plus K P s (span_times K P c (span_member K P (t, l, refl)))),
-    λ i b. each i (ℕ_discrete i t) b,
+    below_next (λ i. z (at i) ≡ 𝟘) t
+        (λ i b. is (at i) (E.within i (omega arith)) ∙ ap₂ (λ v w. v ⊕ neg (c ⊗ w)) (gone i b) (E.clear i t b l) ∙ ap (λ v. 𝟘 ⊕ neg v) (times_zero K c) ∙ K.plus_opposite 𝟘)
+        (is (at t) (E.within t l) ∙ ap (λ v. y (at t) ⊕ neg v) pick ∙ K.plus_opposite (y (at t))),
   )
-    where
-      each : (i : ℕ) → Dec (i ≡ t) → i < suc t → z (at i) ≡ 𝟘
-      each i (yes e) b = ap (λ m. z (at m)) e ∙ is (at t) (E.within t l) ∙ ap (λ v. y (at t) ⊕ neg v) pick ∙ K.plus_opposite (y (at t))
-      each i (no u) b = is (at i) (E.within i (omega arith)) ∙ ap₂ (λ v w. v ⊕ neg (c ⊗ w)) (gone i (omega arith)) (E.clear i t (omega arith) l)
-          ∙ ap (λ v. 𝟘 ⊕ neg v) (times_zero K c) ∙ K.plus_opposite 𝟘
 
   module _ (vector : Word → X → V) where
     -- no words yet
@@ -56,8 +54,11 @@ module _ {V : Type 0} (K : FiniteField V) {X : Type 0} (P : X → Type 0) where
         → Basis K P vector (suc n) words' xs' at'
     basis_more n words words' xs xs' at at' x y B s gone old here olds heres places p u = record {
       stairs = echelon_more K P n xs xs' at at' B.stairs olds places p (λ e. u (sym (heres (at' n) p) ∙ e)) (λ i l. heres (at i) (B.stairs.within i l) ∙ gone i l);
-      from = λ j l. froms j (ℕ_discrete j n) l;
-      to = λ j l. tos j (ℕ_discrete j n) l;
+      from = below_next (λ j. Span K P (Of (suc n) (λ i. vector (words' i))) (xs' j)) n
+          (λ j l. span_same K P (xs' j) (olds j l) (rows (B.from j l))) (span_same K P (xs' n) heres left);
+      to = below_next (λ j. Span K P (Of (suc n) xs') (vector (words' j))) n
+          (λ j l. span_same K P (vector (words' j)) (λ i q. ap (λ v. vector v i) (old j l)) (steps (B.to j l)))
+          (span_same K P (vector (words' n)) (λ i q. ap (λ v. vector v i) here) right);
     }
       where
         rows : {v : X → V} → Span K P (Of n (λ i. vector (words i))) v → Span K P (Of (suc n) (λ i. vector (words' i))) v
@@ -66,27 +67,16 @@ module _ {V : Type 0} (K : FiniteField V) {X : Type 0} (P : X → Type 0) where
         steps : {v : X → V} → Span K P (Of n xs) v → Span K P (Of (suc n) xs') v
         steps t = span_span K P (λ v m. span_same K P v (λ i q. ap (λ w. w i) m.2 ∙ sym (olds m.0 m.1 i q)) (span_member K P (m.0, omega arith, refl))) t
 
-        back : (a b : V) → a ⊕ neg 𝟙 ⊗ (a ⊕ neg b) ≡ b
-        back a b = simp (ring, K)
-
         whole : (a b : V) → b ⊕ (a ⊕ neg b) ≡ a
         whole a b = simp (ring, K)
 
         left : Span K P (Of (suc n) (λ i. vector (words' i))) y
-        left = span_same K P y (λ i q. sym (back (vector x i) (y i)))
+        left = span_same K P y (λ i q. sym (take_back K (vector x i) (y i)))
             (span_plus K P (span_member K P (n, omega arith, ap vector (sym here)))
-            (span_times K P (neg 𝟙) (rows (span_span K P (λ v m. span_same K P v (λ i q. ap (λ w. w i) m.2) (B.from m.0 m.1)) s))))
+            (span_times K P (neg 𝟙) (rows (span_span K P (λ v m. span_is K P m.2 (B.from m.0 m.1)) s))))
 
         right : Span K P (Of (suc n) xs') (vector x)
         right = span_same K P (vector x) (λ i q. sym (whole (vector x i) (y i))) (span_plus K P (span_same K P y (λ i q. sym (heres i q)) (span_member K P (n, omega arith, refl))) (steps s))
-
-        froms : (j : ℕ) → Dec (j ≡ n) → j < suc n → Span K P (Of (suc n) (λ i. vector (words' i))) (xs' j)
-        froms j (yes e) l = span_same K P (xs' j) (λ i q. ap (λ m. xs' m i) e ∙ heres i q) left
-        froms j (no w) l = span_same K P (xs' j) (olds j (omega arith)) (rows (B.from j (omega arith)))
-
-        tos : (j : ℕ) → Dec (j ≡ n) → j < suc n → Span K P (Of (suc n) xs') (vector (words' j))
-        tos j (yes e) l = span_same K P (vector (words' j)) (λ i q. ap (λ m. vector (words' m) i) e ∙ ap (λ v. vector v i) here) right
-        tos j (no w) l = span_same K P (vector (words' j)) (λ i q. ap (λ v. vector v i) (old j (omega arith))) (steps (B.to j (omega arith)))
 
     -- each vector times a number that is not zero
     pub basis_times : (n : ℕ) (words : ℕ → Word) (xs xs' : ℕ → X → V) (at : ℕ → X) (b : ℕ → V) → Basis K P vector n words xs at → ((j : ℕ) → j < n → b j ≢ 𝟘)
@@ -111,10 +101,10 @@ module _ {V : Type 0} (K : FiniteField V) {X : Type 0} (P : X → Type 0) where
         (s : Span K P (Of n xs) (λ i. vector x i ⊕ neg (y i))) where
       pub basis_not_fresh : ((q : X) → P q → y q ≡ 𝟘) → ¬ (Fresh K P k vector x)
       basis_not_fresh z h = h.1 (span_more K P (λ v m. (words m.0, S.before m.0 m.1, (S.good m.0 m.1).0, m.2))
-          (span_span K P (λ v m. span_same K P v (λ i q. ap (λ w. w i) m.2) (B.from m.0 m.1)) (echelon_in K P n xs (vector x) y s z)))
+          (span_span K P (λ v m. span_is K P m.2 (B.from m.0 m.1)) (echelon_in K P n xs (vector x) y s z)))
 
       pub basis_fresh : (qs : List X) → ((i : X) → P i → Among qs i) → ((i : X) → Among qs i → P i) → Over k x → ((i : ℕ) → i < n → y (at i) ≡ 𝟘) → (q : X) → P q → y q ≢ 𝟘 → Fresh K P k vector x
       basis_fresh qs to of o gone q p u = (o, λ t. u (echelon_out K P n xs at B.stairs (vector x) y s gone (span_span K P through (earlier_fresh K P k vector qs to of x t)) q p))
         where
           through : (v : X → V) → EarlierFresh K P k vector x v → Span K P (Of n xs) v
-          through v m = let r = S.whole m.0 m.2 m.1 in span_same K P v (λ i h. ap (λ w. w i) (m.3 ∙ ap vector r.2)) (B.to r.0 r.1)
+          through v m = let r = S.whole m.0 m.2 m.1 in span_is K P (m.3 ∙ ap vector r.2) (B.to r.0 r.1)

@@ -4,8 +4,7 @@ use Rattle.field.specs.FiniteField.{FiniteField}
 use Rattle.series.specs.Spans.{Span}
 use Rattle.series.specs.Words.{Word, Over}
 use Rattle.series.specs.Tables.{Table, dot, column}
-use Rattle.series.proofs.SpanLaws.{span_span}
-use Rattle.series.proofs.LinearMaps.{Linear, span_map}
+use Rattle.series.proofs.LinearMaps.{Linear, span_through}
 use Rattle.series.proofs.Weights.{dot_linear, dot_comm}
 
 module _ {V : Type 0} (K : FiniteField V) (T : Table V) (k : ℕ) where
@@ -23,6 +22,4 @@ module _ {V : Type 0} (K : FiniteField V) (T : Table V) (k : ℕ) where
       → ((a : ℕ) → Over k (a ∷ []) → (y : ℕ → V) → S y → Span K (λ i. i < T.states) S (λ i. dot K T.states (T.step a i) y)) → (u : Word) → Over k u
       → Span K (λ i. i < T.states) S (column K T u)
   columns_covered S start closed [] o = start
-  columns_covered S start closed (a ∷ u) o = span_span K (λ i. i < T.states) (λ x t. t)
-      (span_map K (λ y i. dot K T.states (T.step a i) y) (act_linear a) {T = Span K (λ i. i < T.states) S} (closed a (o.0, o.1, tt))
-      (columns_covered S start closed u o.2))
+  columns_covered S start closed (a ∷ u) o = span_through K (λ y i. dot K T.states (T.step a i) y) (act_linear a) (closed a (o.0, o.1, tt)) (columns_covered S start closed u o.2)

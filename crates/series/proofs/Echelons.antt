@@ -1,14 +1,16 @@
 -- Vectors in echelon form. Assumes nothing.
 use Rattle.std.proofs.Common.{◌≡◌, ℕ, zero, suc, ◌<◌, ◌≤◌, ◌≢◌, sym, ap, ◌∙◌, subst, arith}
-use native.Mathlib.Decide.{dec_lt, ℕ_discrete}
+use native.Mathlib.Decide.{dec_lt}
 use Rattle.field.specs.FiniteField.{FiniteField}
 use Rattle.field.proofs.Laws.{zero_times, times_zero, ring}
 use Rattle.series.specs.Spans.{Span}
 use Rattle.series.specs.Families.{Of, mix, Independent}
 use Rattle.series.specs.EliminationProgress.{Echelon}
+use Rattle.series.proofs.Differences.{take_back}
 use Rattle.series.proofs.SumLaws.{sum_zero, sum_one}
 use Rattle.series.proofs.SpanLaws.{span_same, span_plus, span_times}
 use Rattle.series.proofs.Families.{span_mix, independent_few}
+use Rattle.series.proofs.Places.{below_next}
 
 module _ {V : Type 0} (K : FiniteField V) where
   infixl 65 ◌⊕◌
@@ -46,22 +48,15 @@ module _ {V : Type 0} (K : FiniteField V) where
     pub echelon_more : (n : ℕ) (xs ys : ℕ → X → V) (at bt : ℕ → X) → Echelon K P n xs at → ((i : ℕ) → i < n → (q : X) → P q → ys i q ≡ xs i q) → ((i : ℕ) → i < n → bt i ≡ at i)
         → P (bt n) → ys n (bt n) ≢ 𝟘 → ((i : ℕ) → i < n → ys n (at i) ≡ 𝟘) → Echelon K P (suc n) ys bt
     echelon_more n xs ys at bt E same there p u z = record {
-      within = λ i l. w i (ℕ_discrete i n) l;
-      apart = λ i l. a i (ℕ_discrete i n) l;
-      clear = λ i j l h. c i j l (ℕ_discrete j n) h;
+      within = below_next (λ i. P (bt i)) n inside p;
+      apart = below_next (λ i. ys i (bt i) ≢ 𝟘) n (λ i l e. E.apart i l (ap (xs i) (sym (there i l)) ∙ sym (same i l (bt i) (inside i l)) ∙ e)) u;
+      clear = λ i j l h. below_next (λ m. i < m → ys m (bt i) ≡ 𝟘) n
+          (λ m b g. same m b (bt i) (inside i (omega arith)) ∙ ap (xs m) (there i (omega arith)) ∙ E.clear i m g b)
+          (λ g. ap (ys n) (there i g) ∙ z i g) j h l;
     }
       where
-        w : (i : ℕ) → Dec (i ≡ n) → i < suc n → P (bt i)
-        w i (yes e) l = subst (λ j. P (bt j)) (sym e) p
-        w i (no v) l = subst P (sym (there i (omega arith))) (E.within i (omega arith))
-
-        a : (i : ℕ) → Dec (i ≡ n) → i < suc n → ys i (bt i) ≢ 𝟘
-        a i (yes e) l = subst (λ j. ys j (bt j) ≢ 𝟘) (sym e) u
-        a i (no v) l = λ e. E.apart i (omega arith) (ap (xs i) (sym (there i (omega arith))) ∙ sym (same i (omega arith) (bt i) (w i (no v) l)) ∙ e)
-
-        c : (i j : ℕ) → i < j → Dec (j ≡ n) → j < suc n → ys j (bt i) ≡ 𝟘
-        c i j l (yes e) h = ap (λ m. ys m (bt i)) e ∙ ap (ys n) (there i (omega arith)) ∙ z i (omega arith)
-        c i j l (no v) h = same j (omega arith) (bt i) (subst P (sym (there i (omega arith))) (E.within i (omega arith))) ∙ ap (xs j) (there i (omega arith)) ∙ E.clear i j l (omega arith)
+        inside : (i : ℕ) → i < n → P (bt i)
+        inside i l = subst P (sym (there i l)) (E.within i l)
 
     pub echelon_independent : (n : ℕ) (xs : ℕ → X → V) (at : ℕ → X) → Echelon K P n xs at → Independent K P n xs
     echelon_independent n xs at E j l s = E.apart j l (echelon_zero j xs at (echelon_fewer n j xs at (omega arith) E) (xs j) s (λ i b. E.clear i j b l) (at j) (E.within j l))
@@ -72,10 +67,7 @@ module _ {V : Type 0} (K : FiniteField V) where
 
     pub echelon_out : (n : ℕ) (xs : ℕ → X → V) (at : ℕ → X) → Echelon K P n xs at → (x y : X → V) → Span K P (Of n xs) (λ i. x i ⊕ neg (y i)) → ((i : ℕ) → i < n → y (at i) ≡ 𝟘)
         → Span K P (Of n xs) x → (q : X) → P q → y q ≡ 𝟘
-    echelon_out n xs at E x y s z t = echelon_zero n xs at E y (span_same K P y (λ q p. sym (back (x q) (y q))) (span_plus K P t (span_times K P (neg 𝟙) s))) z
-      where
-        back : (a b : V) → a ⊕ neg 𝟙 ⊗ (a ⊕ neg b) ≡ b
-        back a b = simp (ring, K)
+    echelon_out n xs at E x y s z t = echelon_zero n xs at E y (span_same K P y (λ q p. sym (take_back K (x q) (y q))) (span_plus K P t (span_times K P (neg 𝟙) s))) z
 
   pub echelon_few : (d n : ℕ) (xs : ℕ → ℕ → V) (at : ℕ → ℕ) → Echelon K (λ i. i < d) n xs at → n ≤ d
   echelon_few d n xs at E = independent_few K d n xs (echelon_independent (λ i. i < d) n xs at E)

@@ -5,8 +5,8 @@ use Rattle.field.proofs.Laws.{same?, zero_plus, zero_times, one_times, neg_times
 use Rattle.series.specs.Spans.{Span, none}
 use Rattle.series.proofs.Lists.{Among}
 use Rattle.series.proofs.Places.{range, range_length, range_has}
-use Rattle.series.proofs.SpanLaws.{span_same, span_member, span_plus, span_times, span_span, span_more, span_zero, span_fewer, span_exact}
-use Rattle.series.proofs.LinearMaps.{Linear, span_map}
+use Rattle.series.proofs.SpanLaws.{span_same, span_is, span_member, span_plus, span_times, span_span, span_more, span_zero, span_fewer, span_exact}
+use Rattle.series.proofs.LinearMaps.{Linear, span_through}
 
 -- some vector of the list is a combination of those behind it
 abbrev pub DependentList : {V : Type 0} (K : FiniteField V) {X : Type 0} → (X → Type 0) → List (X → V) → Type 0
@@ -48,8 +48,7 @@ module _ {V : Type 0} (K : FiniteField V) {X : Type 0} where
     cut_out p q x s t = span_same K P x (λ i h. sym (back i)) (span_plus K P t (span_times K P (neg (factor p q x)) s))
       where
         back : (i : X) → cut p q x i ⊕ neg (factor p q x) ⊗ p i ≡ x i
-        back i = K.plus_assoc (x i) (factor p q x ⊗ p i) (neg (factor p q x) ⊗ p i)
-            ∙ ap (λ v. x i ⊕ v) (ap (λ v. factor p q x ⊗ p i ⊕ v) (neg_times K (factor p q x) (p i)) ∙ K.plus_opposite (factor p q x ⊗ p i)) ∙ K.plus_zero (x i)
+        back i = simp (ring, K)
 
   cut_linear : (P : X → Type 0) (p : X → V) (q : X) → P q → Linear K P P (cut p q)
   unfolding factor
@@ -97,7 +96,7 @@ module _ {V : Type 0} (K : FiniteField V) {X : Type 0} where
     apart = r.apart;
     from = from';
     clear = λ y. elim [ inl s ↦ ap (λ v. v q) s ∙ cut_zero r.pivot q x r.apart | inr a ↦ r.clear y a ];
-    inside = λ y. elim [ inl s ↦ span_same K P y (λ i h. ap (λ v. v i) s) (cut_in P r.pivot q x from' (span_member K P (inl refl))) | inr a ↦ span_more K P (λ z b. inr b) (r.inside y a) ];
+    inside = λ y. elim [ inl s ↦ span_is K P s (cut_in P r.pivot q x from' (span_member K P (inl refl))) | inr a ↦ span_more K P (λ z b. inr b) (r.inside y a) ];
     reduced = λ y. elim [ inl s ↦ span_member K P (inl (ap (cut r.pivot q) s)) | inr a ↦ span_more K P (λ z b. inr b) (r.reduced y a) ];
     dependent = elim [ inl s ↦ inl (cut_out P r.pivot q x r.from (span_span K P r.inside s)) | inr d ↦ inr (r.dependent d) ];
   }
@@ -155,8 +154,7 @@ module _ {V : Type 0} (K : FiniteField V) {X : Type 0} where
       by r (yes s) = yes (cut_out (Among (q ∷ qs)) r.pivot q y r.from
           (span_span K (Among (q ∷ qs)) r.inside (span_place q qs (cut r.pivot q y) r.clear (cut_zero r.pivot q y r.apart) s)))
       by r (no u) = no (λ s. u (span_fewer K (λ i a. inr a)
-          (span_span K (Among (q ∷ qs)) (λ x t. t) (span_map K (cut r.pivot q) (cut_linear (Among (q ∷ qs)) r.pivot q (inl refl)) {T = Span K (Among (q ∷ qs))
-          (Among r.rest)} r.reduced s))))
+          (span_through K (cut r.pivot q) (cut_linear (Among (q ∷ qs)) r.pivot q (inl refl)) r.reduced s)))
 
       go : Found (Among (q ∷ qs)) q xs → ((zs : List (X → V)) (z : X → V) → Dec (Span K (Among qs) (Among zs) z)) → Dec (Span K (Among (q ∷ qs)) (Among xs) y)
       go (inl z) before = clean z (same? K (y q) 𝟘) (before xs y)

@@ -1,6 +1,6 @@
 -- Combinations by coefficients. Assumes nothing.
 use Rattle.std.proofs.Common.{◌≡◌, ℕ, zero, suc, ◌<◌, ◌≤◌, ◌≢◌, map, sym, refl, ap, ◌∙◌, subst, ap₂, inl, inr, arith}
-use native.Mathlib.Decide.{dec_lt, ℕ_discrete}
+use native.Mathlib.Decide.{dec_lt, ℕ_discrete, map_dec}
 use lib.ListN.{length-map}
 use Rattle.field.proofs.Laws.{same?, zero_times, one_times, plus_times, plus_cancel, ring}
 use Rattle.field.specs.FiniteField.{FiniteField}
@@ -68,11 +68,10 @@ module _ {V : Type 0} (K : FiniteField V) {X : Type 0} (P : X → Type 0) where
 
       -- A + cn x = D + dn x gives D - A = (cn - dn) x
       move_over : (A D p q : V) → A ⊕ p ≡ D ⊕ q → D ⊕ neg A ≡ p ⊕ neg q
-      move_over A D p q h = ap (λ v. v ⊕ neg A) (back ∙ K.plus_assoc A p (neg q) ∙ K.plus_comm A (p ⊕ neg q)) ∙ K.plus_assoc (p ⊕ neg q) A (neg A)
-          ∙ ap (λ v. p ⊕ neg q ⊕ v) (K.plus_opposite A) ∙ K.plus_zero (p ⊕ neg q)
-        where
-          back : D ≡ A ⊕ p ⊕ neg q
-          back = sym (K.plus_assoc D q (neg q) ∙ ap (λ v. D ⊕ v) (K.plus_opposite q) ∙ K.plus_zero D) ∙ ap (λ v. v ⊕ neg q) (sym h)
+      move_over A D p q h =
+          let left : D ⊕ neg A ≡ (D ⊕ q) ⊕ (neg q ⊕ neg A) = simp (ring, K) in
+          let right : (A ⊕ p) ⊕ (neg q ⊕ neg A) ≡ p ⊕ neg q = simp (ring, K) in
+          left ∙ ap (λ v. v ⊕ (neg q ⊕ neg A)) (sym h) ∙ right
 
       turned : mix K n d xs i ⊕ neg (mix K n c xs i) ≡ (c n ⊕ neg (d n)) ⊗ xs n i
       turned = move_over (mix K n c xs i) (mix K n d xs i) (c n ⊗ xs n i) (d n ⊗ xs n i) e ∙ simp (ring, K)
@@ -121,9 +120,8 @@ module _ {V : Type 0} (K : FiniteField V) where
 
   -- whether a vector is a combination of finitely many is decided
   pub combination? : (d n : ℕ) (xs : ℕ → ℕ → V) (y : ℕ → V) → Dec (Span K (λ i. i < d) (Of n xs) y)
-  combination? d n xs y = go (decide_span K (range d) (map xs (range n)) y)
-    where
-      go : Dec (Span K (Among (range d)) (Among (map xs (range n))) y) → Dec (Span K (λ i. i < d) (Of n xs) y)
-      go (yes s) = yes (span_fewer K (range_has d) (span_more K (Among (range d)) (λ x m. let r = among_map_back xs (range n) x m in (r.0, range_are n r.0 r.1, r.2)) s))
-      go (no u) = no (λ s. u (span_fewer K (range_are d)
-          (span_more K (λ i. i < d) (λ x m. subst (Among (map xs (range n))) (sym m.2) (among_map xs (range n) m.0 (range_has n m.0 m.1))) s)))
+  combination? d n xs y =
+      map_dec
+      (λ s. span_fewer K (range_has d) (span_more K (Among (range d)) (λ x m. let r = among_map_back xs (range n) x m in (r.0, range_are n r.0 r.1, r.2)) s))
+      (λ s. span_fewer K (range_are d) (span_more K (λ i. i < d) (λ x m. subst (Among (map xs (range n))) (sym m.2) (among_map xs (range n) m.0 (range_has n m.0 m.1))) s))
+      (decide_span K (range d) (map xs (range n)) y)

@@ -5,6 +5,7 @@ use Rattle.field.proofs.Laws.{ring}
 use Rattle.series.specs.Spans.{Span, none, more}
 use Rattle.series.specs.Families.{mix}
 use Rattle.series.specs.Tables.{beside}
+use Rattle.series.proofs.SpanLaws.{span_span, span_zero}
 use Rattle.series.proofs.Places.{both_parts, beside_left, beside_right}
 
 -- a linear map
@@ -17,6 +18,14 @@ module _ {V : Type 0} (K : FiniteField V) {X Y : Type 0} {P : X → Type 0} {Q :
   pub span_map : {S : (X → V) → Type 0} {T : (Y → V) → Type 0} {y : X → V} → ((x : X → V) → S x → T (f x)) → Span K P S y → Span K Q T (f y)
   span_map {S} {T} {y} h (none e) = none (λ j q. L.same y (λ i. K.zero) e j q ∙ L.zeros j q)
   span_map {S} {T} {y} h (more c x w s t e) = more c (f x) (f w) (h x s) (span_map h t) (λ j q. L.same y (λ i. K.plus (K.times c (x i)) (w i)) e j q ∙ L.mixes c x w j q)
+
+  -- what is mapped to combinations of T's
+  pub span_through : {S : (X → V) → Type 0} {T : (Y → V) → Type 0} {y : X → V} → ((x : X → V) → S x → Span K Q T (f x)) → Span K P S y → Span K Q T (f y)
+  span_through {S} {T} h s = span_span K Q (λ x t. t) (span_map {T = Span K Q T} h s)
+
+  -- what is mapped to zero at a place
+  pub span_gone : (q : Y) → Q q → {S : (X → V) → Type 0} {y : X → V} → ((x : X → V) → S x → f x q ≡ K.zero) → Span K P S y → f y q ≡ K.zero
+  span_gone q p h s = span_zero K Q q p (λ z t. t) (span_map {T = λ z. z q ≡ K.zero} h s)
 
 module _ {V : Type 0} (K : FiniteField V) where
   infixl 65 ◌⊕◌

@@ -6,7 +6,7 @@ use Rattle.std.proofs.lemmas.Nat.{mul-le}
 use Rattle.series.specs.Words.{Word, ◌≺◌}
 use Rattle.series.specs.Listing.{Listed}
 use Rattle.series.specs.Comparing.{Followed}
-use Rattle.series.proofs.Orders.{≺-push, ≺-last, ≺-nonempty, both_ways, same_not, none_before}
+use Rattle.series.proofs.Orders.{≺-push, ≺-last, ≺-nonempty, both_ways, same_not, none_before, same_before, before_same}
 
 -- the same words by another name
 pub listed_same : (Good Also : Word → Type 0) → ((v : Word) → Good v → Also v) → ((v : Word) → Also v → Good v) → {n : ℕ} {words : ℕ → Word} → Listed Good n words → Listed Also n words
@@ -27,7 +27,7 @@ first_empty Good n words s g = let r = s.whole [] g in (omega (arith, r.1), at r
   where
     at : (i : ℕ) → i < n → [] ≡ words i → words 0 ≡ []
     at zero l e = sym e
-    at (suc i) l e = absurd (none_before (words 0) (subst (λ v. words 0 ≺ v) (sym e) (s.ascends 0 (suc i) (omega arith) l)))
+    at (suc i) l e = absurd (none_before (words 0) (before_same _ (s.ascends 0 (suc i) (omega arith) l) (sym e)))
 
 -- two ways to count off the same words
 module _ (Good : Word → Type 0) (n m : ℕ) (xs ys : ℕ → Word) (X : Listed Good n xs) (Y : Listed Good m ys) where
@@ -44,7 +44,7 @@ module _ (Good : Word → Type 0) (n m : ℕ) (xs ys : ℕ → Word) (X : Listed
       high h = top (X.whole (ys i) (Y.good i (omega (arith, a.1))))
         where
           up : ys i ≺ xs i
-          up = subst (λ v. ys i ≺ v) (sym a.2) (Y.ascends i a.0 h a.1)
+          up = before_same _ (Y.ascends i a.0 h a.1) (sym a.2)
 
           top : (j : ℕ) × (j < n) × (ys i ≡ xs j) → ⊥
           top b = cases (dec_lt b.0 i) (ℕ_discrete b.0 i)
@@ -52,7 +52,7 @@ module _ (Good : Word → Type 0) (n m : ℕ) (xs ys : ℕ → Word) (X : Listed
               cases : Dec (b.0 < i) → Dec (b.0 ≡ i) → ⊥
               cases (yes d) e = same_not (ys b.0) (ys i) (sym (before b.0 d) ∙ sym b.2) (Y.ascends b.0 i d (omega (arith, a.1)))
               cases (no d) (yes e) = same_not (ys i) (xs i) (b.2 ∙ ap xs e) up
-              cases (no d) (no e) = both_ways (xs i) (xs b.0) (X.ascends i b.0 (omega arith) b.1) (subst (λ v. v ≺ xs i) b.2 up)
+              cases (no d) (no e) = both_ways (xs i) (xs b.0) (X.ascends i b.0 (omega arith) b.1) (same_before _ (sym b.2) up)
 
       go : Dec (a.0 < i) → Dec (a.0 ≡ i) → (i < m) × (xs i ≡ ys i)
       go (yes h) d = absurd (low h)
@@ -91,7 +91,7 @@ listed_upto Good n words s m l = record {
     inside v i b e h = go (dec_lt m i)
       where
         over : m < i → (v ≺ words m) ⊎ (v ≡ words m) → ⊥
-        over g (inl q) = both_ways (words m) (words i) (s.ascends m i g b) (subst (λ x. x ≺ words m) e q)
+        over g (inl q) = both_ways (words m) (words i) (s.ascends m i g b) (same_before _ (sym e) q)
         over g (inr q) = same_not (words m) (words i) (sym q ∙ e) (s.ascends m i g b)
 
         go : Dec (m < i) → i < suc m
@@ -158,11 +158,11 @@ module _ (k : ℕ) where
 
       rises : (m p : ℕ) → Place n m → Place n p → m < p → followed_list words m ≺ followed_list words p
       rises m p a (inl q) l = absurd (omega arith)
-      rises m p (inl a) (inr q) l = subst (λ x. x ≺ followed_list words p) (sym (first m a)) (subst (λ x. [] ≺ x) (sym (shown p q.0 q.1 q.3 q.4 q.5)) (≺-nonempty (words q.0) q.1))
+      rises m p (inl a) (inr q) l = same_before _ (first m a) (before_same _ (≺-nonempty (words q.0) q.1) (sym (shown p q.0 q.1 q.3 q.4 q.5)))
       rises m p (inr a) (inr q) l =
           let e = a.5 in let f = q.5 in
-          subst (λ x. x ≺ followed_list words p) (sym (shown m a.0 a.1 a.3 a.4 a.5)) (subst (λ x. (words a.0 ++ a.1 ∷ []) ≺ x) (sym (shown p q.0 q.1 q.3 q.4 q.5))
-          (less a.0 a.1 q.0 q.1 a.3 q.4 q.2 (omega arith)))
+          same_before _ (shown m a.0 a.1 a.3 a.4 a.5)
+          (before_same _ (less a.0 a.1 q.0 q.1 a.3 q.4 q.2 (omega arith)) (sym (shown p q.0 q.1 q.3 q.4 q.5)))
 
       goods : (m : ℕ) → Place n m → Followed k Good (followed_list words m)
       goods m (inl e) = inl (first m e)

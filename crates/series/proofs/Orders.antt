@@ -1,6 +1,6 @@
 -- What the laws of the order of words give; no proof but that of the laws opens the order. Assumes nothing.
-use Rattle.std.proofs.Common.{◌≡◌, ℕ, ◌<◌, ◌≤◌, ◌⊎◌, [], ◌∷◌, ◌++◌, length, ap, ◌∙◌, subst, inl, inr, arith, length-append}
-use mathlib.Core.WellFounded.{Acc}
+use Rattle.std.proofs.Common.{◌≡◌, ℕ, ◌<◌, ◌≤◌, ◌⊎◌, [], ◌∷◌, ◌++◌, length, sym, ap, ◌∙◌, subst, inl, inr, arith, length-append}
+use mathlib.Core.WellFounded.{induction}
 use native.Mathlib.Decide.{dec_lt}
 use Rattle.series.specs.Words.{Word, ◌≺◌}
 use Rattle.series.proofs.Shortlex.{shortlex}
@@ -27,16 +27,24 @@ pub ≺-last : (u : Word) (a b : ℕ) → a < b → (u ++ a ∷ []) ≺ (u ++ b 
 
 -- what holds of a word wherever it holds of all before it, holds of every word
 pub ≺-induction : (Q : Word → Type 0) → ((w : Word) → ((u : Word) → u ≺ w → Q u) → Q w) → (w : Word) → Q w
-≺-induction Q h w = go w (shortlex.descent_ends w)
-  where
-    go : (v : Word) → Acc ◌≺◌ v → Q v
-    go v (Acc.intro x below) = h x (λ u l. go u (below u l))
+≺-induction Q h w = induction (record { apply = shortlex.descent_ends }) w h
+
+-- a word in place of the same
+pub same_before : {u v : Word} (w : Word) → u ≡ v → v ≺ w → u ≺ w
+same_before w e l = subst (λ x. x ≺ w) (sym e) l
+
+pub before_same : (u : Word) {v w : Word} → u ≺ v → v ≡ w → u ≺ w
+before_same u l e = subst (λ x. u ≺ x) e l
+
+pub upto_before : (t u w : Word) → (t ≡ u) ⊎ (t ≺ u) → u ≺ w → t ≺ w
+upto_before t u w (inl e) l = same_before w e l
+upto_before t u w (inr g) l = ≺-transitive t u w g l
 
 pub both_ways : (u v : Word) → u ≺ v → v ≺ u → ⊥
 both_ways u v l g = ≺-irreflexive u (≺-transitive u v u l g)
 
 pub same_not : (u v : Word) → u ≡ v → u ≺ v → ⊥
-same_not u v e l = ≺-irreflexive v (subst (λ x. x ≺ v) e l)
+same_not u v e l = ≺-irreflexive v (same_before _ (sym e) l)
 
 pub ≺-decide : (u v : Word) → Dec (u ≺ v)
 ≺-decide u v = go (≺-compare u v)
@@ -73,5 +81,5 @@ pub ≺-push-back : (u v : Word) (a b : ℕ) → (u ++ a ∷ []) ≺ (v ++ b ∷
     go (inl h) d e = inl h
     go (inr (inr h)) d e = absurd (both_ways (u ++ a ∷ []) (v ++ b ∷ []) l (≺-push v u b a h))
     go (inr (inl s)) (yes d) e = inr (s, d)
-    go (inr (inl s)) (no d) (yes e) = absurd (both_ways (u ++ a ∷ []) (v ++ b ∷ []) l (subst (λ x. (x ++ b ∷ []) ≺ (u ++ a ∷ [])) s (≺-last u b a e)))
+    go (inr (inl s)) (no d) (yes e) = absurd (both_ways (u ++ a ∷ []) (v ++ b ∷ []) l (same_before _ (ap (λ x. x ++ b ∷ []) (sym s)) (≺-last u b a e)))
     go (inr (inl s)) (no d) (no e) = let f : a ≡ b = omega arith in absurd (same_not (u ++ a ∷ []) (v ++ b ∷ []) (ap (λ x. x ++ a ∷ []) s ∙ ap (λ c. v ++ c ∷ []) f) l)

@@ -1,5 +1,5 @@
 -- Numbers below n as a list, and two vectors side by side. Assumes nothing.
-use Rattle.std.proofs.Common.{◌≡◌, ℕ, zero, suc, ◌+◌, ◌-◌, ◌<◌, ◌⊎◌, List, [], ◌∷◌, length, refl, ap, subst, inl, inr, suc-add, zero-add, arith}
+use Rattle.std.proofs.Common.{◌≡◌, ℕ, zero, suc, ◌+◌, ◌-◌, ◌<◌, ◌⊎◌, List, [], ◌∷◌, length, refl, ap, subst, inl, inr, suc-add, zero-add, below_more, arith}
 use native.Mathlib.Decide.{dec_lt}
 use Rattle.series.specs.Tables.{beside}
 use Rattle.series.proofs.Lists.{Among}
@@ -29,6 +29,10 @@ range_are zero i h = absurd h
 range_are (suc n) i (inl e) = omega arith
 range_are (suc n) i (inr h) = let r = range_are n i h in omega arith
 
+-- what holds below n and at n holds below n + 1
+pub below_next : (Q : ℕ → Type 0) (n : ℕ) → ((i : ℕ) → i < n → Q i) → Q n → (i : ℕ) → i < suc n → Q i
+below_next Q n before here i l = below_more Q n before here i (omega arith)
+
 -- a decidable property holds of all numbers below n, or fails at one of them
 pub bounded : (n : ℕ) (Q : ℕ → Type 0) → ((i : ℕ) → Dec (Q i)) → ((i : ℕ) → i < n → Q i) ⊎ ((i : ℕ) × (i < n) × (¬ (Q i)))
 bounded zero Q decide = inl (λ i l. absurd (omega arith))
@@ -37,11 +41,7 @@ bounded (suc n) Q decide = go (bounded n Q decide) (decide n)
     go : ((i : ℕ) → i < n → Q i) ⊎ ((i : ℕ) × (i < n) × (¬ (Q i))) → Dec (Q n) → ((i : ℕ) → i < suc n → Q i) ⊎ ((i : ℕ) × (i < suc n) × (¬ (Q i)))
     go (inr r) d = inr (r.0, omega (arith, r.1), r.2)
     go (inl h) (no u) = inr (n, omega arith, u)
-    go (inl h) (yes q) = inl (λ i l. each i (dec_lt i n) l)
-      where
-        each : (i : ℕ) → Dec (i < n) → i < suc n → Q i
-        each i (yes b) l = h i b
-        each i (no b) l = let e : n ≡ i = omega arith in subst Q e q
+    go (inl h) (yes q) = inl (below_next Q n h q)
 
 -- what holds on the left and on the right holds below n + m
 pub both_parts : (n m : ℕ) (Q : ℕ → Type 0) → ((i : ℕ) → i < n → Q i) → ((i : ℕ) → i < m → Q (n + i)) → (i : ℕ) → i < n + m → Q i

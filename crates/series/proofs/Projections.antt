@@ -9,8 +9,7 @@ use Rattle.series.specs.Listing.{Listed}
 use Rattle.series.specs.Projecting.{Columns, Spanning, seen, FreshSeen}
 use Rattle.series.specs.Reducing.{residual, Leading, Reduced}
 use Rattle.series.proofs.SumLaws.{sum_same}
-use Rattle.series.proofs.SpanLaws.{span_zero}
-use Rattle.series.proofs.LinearMaps.{span_map}
+use Rattle.series.proofs.LinearMaps.{span_gone}
 use Rattle.series.proofs.Weights.{dot_comm, dot_linear, weight_append}
 use Rattle.series.proofs.FreshWords.{fresh_alike}
 use Rattle.series.proofs.Images.{mix_transfer, fresh_transfer}
@@ -21,8 +20,7 @@ module _ {V : Type 0} (K : FiniteField V) where
 
   -- a row that is zero at columns is zero at their combinations
   pub dot_vanishes : (n : ℕ) (S : (ℕ → V) → Type 0) (x y : ℕ → V) → ((c : ℕ → V) → S c → dot K n x c ≡ 𝟘) → Span K (λ i. i < n) S y → dot K n x y ≡ 𝟘
-  dot_vanishes n S x y h s = dot_comm K n x y ∙ span_zero K (λ (i : Unit {0}). Unit {0}) tt tt (λ z t. t)
-      (span_map K (λ c j. dot K n c x) (dot_linear K (λ (i : Unit {0}). Unit {0}) n (λ j. x)) {T = λ z. z tt ≡ 𝟘} (λ c q. dot_comm K n c x ∙ h c q) s)
+  dot_vanishes n S x y h s = dot_comm K n x y ∙ span_gone K (λ c j. dot K n c x) (dot_linear K (λ (i : Unit {0}). Unit {0}) n (λ j. x)) tt tt (λ c q. dot_comm K n c x ∙ h c q) s
 
 -- rows seen through columns that span those of all words
 module _ {V : Type 0} (K : FiniteField V) (T : Table V) (k d : ℕ) (cs : ℕ → ℕ → V) (spanning : Spanning K T k d cs) where

@@ -3,15 +3,14 @@ use Rattle.std.proofs.Common.{◌≡◌, ℕ, ◌<◌, ◌≤◌, ◌↔◌, [],
 use native.Mathlib.Decide.{dec_lt, ℕ_discrete}
 use Rattle.field.specs.FiniteField.{FiniteField}
 use Rattle.field.proofs.Laws.{same?}
-use Rattle.series.specs.Spans.{Span}
 use Rattle.series.specs.Words.{Word, Over}
-use Rattle.series.specs.Families.{Of, mix, Independent}
+use Rattle.series.specs.Families.{mix, Independent}
 use Rattle.series.specs.Tables.{Table, dot, move, after, row, column, weight, Agree, SameTable}
 use Rattle.series.specs.Reducing.{residual, Leading, Reduced}
 use Rattle.series.proofs.Words.{over_append}
 use Rattle.series.proofs.SumLaws.{sum_same}
-use Rattle.series.proofs.SpanLaws.{span_same, span_member, span_span, span_zero}
-use Rattle.series.proofs.LinearMaps.{span_map, places_linear}
+use Rattle.series.proofs.SpanLaws.{span_same, span_member, span_zero}
+use Rattle.series.proofs.LinearMaps.{span_through, places_linear}
 use Rattle.series.proofs.Orders.{none_before}
 use Rattle.series.proofs.FreshWords.{fresh_prefix, fresh_alike, fresh_independent}
 use Rattle.series.proofs.Weights.{dot_move, dot_linear, weight_append, same_weight}
@@ -83,10 +82,9 @@ module _ {V : Type 0} (K : FiniteField V) (k : ℕ) where
         go (yes l) =
             let r = more_dependent K T.states R.states rows l in
             absurd (reduced_independent r.0 r.1 (span_same K (Over k) (residual f (c.words r.0)) (agrees r.0 r.1)
-            (span_span K (Over k) (λ x t. t) (span_map K through
-            (dot_linear K (Over k) T.states (column K T)) {T = Span K (Over k) (Of r.0 (λ j. residual f (c.words j)))}
+            (span_through K through (dot_linear K (Over k) T.states (column K T))
             (λ x m. span_same K (Over k) (through x) (λ u p. ap (λ v. through v u) m.2 ∙ sym (agrees m.0 (omega (arith, r.1, m.1)) u p))
-            (span_member K (Over k) (m.0, m.1, refl))) r.2))))
+            (span_member K (Over k) (m.0, m.1, refl))) r.2)))
 
   -- there is one only
   pub reduced_unique : (f : Word → V) (R S : Table V) → Reduced K k f R → Reduced K k f S → SameTable R S

@@ -1,6 +1,7 @@
 -- Shortlex has the laws of a word order. The one file that opens the order's definition. Assumes nothing.
 use Rattle.std.proofs.Common.{◌≡◌, ℕ, zero, suc, ◌<◌, ◌⊎◌, [], ◌∷◌, ◌++◌, length, sym, refl, ap, ◌∙◌, subst, ap₂, inl, inr, arith, length-append}
-use mathlib.Core.WellFounded.{Acc}
+use mathlib.Core.WellFounded.{Acc, induction}
+use lib.WfN.{lt-wf_rel}
 use native.Mathlib.Decide.{dec_lt}
 use native.Mathlib.Nat.{suc_inj}
 use Rattle.series.specs.Words.{Word, Smaller, ◌≺◌}
@@ -79,12 +80,8 @@ unfolding ◌≺◌
 last u a b l = inr (simp length-append (omega arith), smaller_last u a b l)
 
 -- what holds of a number wherever it holds of all below it, holds of every number
-below : (Q : ℕ → Type 0) → ((n : ℕ) → ((m : ℕ) → m < n → Q m) → Q n) → (n m : ℕ) → m < n → Q m
-below Q h zero m l = absurd (omega arith)
-below Q h (suc n) m l = h m (λ j b. below Q h n j (omega arith))
-
 strong : (Q : ℕ → Type 0) → ((n : ℕ) → ((m : ℕ) → m < n → Q m) → Q n) → (n : ℕ) → Q n
-strong Q h n = below Q h (suc n) n (omega arith)
+strong Q h n = induction lt-wf_rel.wf n h
 
 -- induction along the words of one length
 same_length : (n : ℕ) (Q : Word → Type 0) → ((w : Word) → length w ≡ n → ((u : Word) → length u ≡ n → Smaller u w → Q u) → Q w) → (w : Word) → length w ≡ n → Q w

@@ -1,5 +1,5 @@
 -- Laws of combinations. Assumes nothing.
-use Rattle.std.proofs.Common.{◌≡◌, sym, refl, ap, ◌∙◌, ap₂}
+use Rattle.std.proofs.Common.{◌≡◌, sym, refl, ap, ◌∙◌, subst, ap₂}
 use Rattle.field.specs.FiniteField.{FiniteField}
 use Rattle.field.proofs.Laws.{zero_plus, times_zero, one_times}
 use Rattle.series.specs.Spans.{Span, none, more}
@@ -12,6 +12,10 @@ module _ {V : Type 0} (K : FiniteField V) {X : Type 0} (P : X → Type 0) where
   pub span_same : {S : (X → V) → Type 0} {y : X → V} (z : X → V) → ((i : X) → P i → z i ≡ y i) → Span K P S y → Span K P S z
   span_same z h (none e) = none (λ i p. h i p ∙ e i p)
   span_same z h (more c x w s t e) = more c x w s t (λ i p. h i p ∙ e i p)
+
+  -- of the same vector
+  pub span_is : {S : (X → V) → Type 0} {x y : X → V} → x ≡ y → Span K P S y → Span K P S x
+  span_is {S} e s = subst (Span K P S) (sym e) s
 
   pub span_member : {S : (X → V) → Type 0} {x : X → V} → S x → Span K P S x
   span_member {S} {x} s = more 𝟙 x (λ i. 𝟘) s (none (λ i p. refl)) (λ i p. sym (K.plus_zero (𝟙 ⊗ x i) ∙ one_times K (x i)))

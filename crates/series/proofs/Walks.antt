@@ -1,13 +1,14 @@
 -- A walk through the words that looks at the words u a, for each u that it has found, in their order. Assumes nothing.
 use Rattle.std.proofs.Common.{◌≡◌, ℕ, suc, ◌+◌, ◌*◌, ◌<◌, ◌≤◌, ◌⊎◌, [], ◌∷◌, ◌++◌, sym, ap, ◌∙◌, subst, inl, inr, arith}
-use native.Mathlib.Decide.{dec_lt, ℕ_discrete}
+use native.Mathlib.Decide.{dec_lt}
 use Rattle.std.proofs.lemmas.Nat.{mul-le}
 use Rattle.series.specs.Words.{Word, Over, ◌≺◌}
 use Rattle.series.specs.Listing.{Listed}
 use Rattle.series.specs.Comparing.{Followed}
 use Rattle.series.specs.WalkProgress.{Scanned, Upto}
 use Rattle.series.proofs.Words.{last_letter, over_rest}
-use Rattle.series.proofs.Orders.{≺-transitive, ≺-compare, ≺-push, ≺-last, ≺-push-back, ≺-longer, ≺-nonempty, both_ways, same_not, ≺-induction, none_before}
+use Rattle.series.proofs.Orders.{≺-transitive, ≺-compare, ≺-push, ≺-last, ≺-push-back, ≺-longer, ≺-nonempty, both_ways, same_not, ≺-induction, none_before, same_before, before_same}
+use Rattle.series.proofs.Places.{below_next}
 use Rattle.series.proofs.Listings.{number_less, listed_upto, followed_list, followed_at, listed_followed}
 
 module _ (Good : Word → Type 0) where
@@ -26,7 +27,7 @@ module _ (Good : Word → Type 0) where
     ascends = s.ascends;
     good = s.good;
     before = λ i l. back (words i) (last_letter (words i)) (s.before i l);
-    whole = λ v g. elim [ inl l ↦ s.whole v g (≺-transitive v (u ++ a ∷ []) (u ++ suc a ∷ []) l up) | inr e ↦ s.whole v g (subst (λ w. w ≺ (u ++ suc a ∷ [])) (sym e) up) ];
+    whole = λ v g. elim [ inl l ↦ s.whole v g (≺-transitive v (u ++ a ∷ []) (u ++ suc a ∷ []) l up) | inr e ↦ s.whole v g (same_before _ e up) ];
   }
     where
       up : (u ++ a ∷ []) ≺ (u ++ suc a ∷ [])
@@ -41,8 +42,8 @@ module _ (Good : Word → Type 0) where
       step t b (inr h) = same t b h.0 (dec_lt b a) h.1
 
       back : (w : Word) → (w ≡ []) ⊎ ((t : Word) × (b : ℕ) × (w ≡ t ++ b ∷ [])) → w ≺ (u ++ suc a ∷ []) → (w ≺ (u ++ a ∷ [])) ⊎ (w ≡ (u ++ a ∷ []))
-      back w (inl e) l = inl (subst (λ x. x ≺ (u ++ a ∷ [])) (sym e) (≺-nonempty u a))
-      back w (inr r) l = subst (λ x. (x ≺ (u ++ a ∷ [])) ⊎ (x ≡ (u ++ a ∷ []))) (sym r.2) (step r.0 r.1 (≺-push-back r.0 u r.1 (suc a) (subst (λ x. x ≺ (u ++ suc a ∷ [])) r.2 l)))
+      back w (inl e) l = inl (same_before _ e (≺-nonempty u a))
+      back w (inr r) l = subst (λ x. (x ≺ (u ++ a ∷ [])) ⊎ (x ≡ (u ++ a ∷ []))) (sym r.2) (step r.0 r.1 (≺-push-back r.0 u r.1 (suc a) (same_before _ (sym r.2) l)))
 
   -- the number of words looked at up to the word i with the letter a, where each good word and the empty word is followed by each letter
   pub scan_followed : (k n : ℕ) (words : ℕ → Word) (i a : ℕ) → i < n → 1 ≤ a → a ≤ k → Scanned Good n words (words i ++ a ∷ [])
@@ -69,8 +70,8 @@ module _ (Good : Word → Type 0) where
           (listed_followed k (λ u. Good u × (u ≺ (words i ++ a ∷ []))) n words found) (i * k + a) (omega (arith, mul-le (i + 1) k n k (omega arith) (omega arith)))
 
       under : (v u : Word) (b : ℕ) → v ≡ u ++ b ∷ [] → (v ≺ (words i ++ a ∷ [])) ⊎ (v ≡ (words i ++ a ∷ [])) → u ≺ (words i ++ a ∷ [])
-      under v u b e (inl l) = ≺-transitive u (u ++ b ∷ []) (words i ++ a ∷ []) (≺-longer u b []) (subst (λ w. w ≺ (words i ++ a ∷ [])) e l)
-      under v u b e (inr q) = subst (λ w. u ≺ w) (sym e ∙ q) (≺-longer u b [])
+      under v u b e (inl l) = ≺-transitive u (u ++ b ∷ []) (words i ++ a ∷ []) (≺-longer u b []) (same_before _ (sym e) l)
+      under v u b e (inr q) = before_same _ (≺-longer u b []) (sym e ∙ q)
 
 module _ (k : ℕ) (Good : Word → Type 0) (over : (w : Word) → Good w → Over k w) (front : (u : Word) (a : ℕ) → Good (u ++ a ∷ []) → Good u) where
   -- x is looked at, and is no good
@@ -85,33 +86,23 @@ module _ (k : ℕ) (Good : Word → Type 0) (over : (w : Word) → Good w → Ov
   -- x is looked at, and is good
   pub scan_add : (n : ℕ) (words more : ℕ → Word) (x : Word) → Scanned Good n words x → Good x → ((i : ℕ) → i < n → more i ≡ words i) → more n ≡ x → Upto Good (suc n) more x
   scan_add n words more x s g same here = record {
-    ascends = λ i j l b. rises i j l (ℕ_discrete j n) b;
-    good = λ i b. goods i (ℕ_discrete i n) b;
-    before = λ i b. befores i (ℕ_discrete i n) b;
+    ascends = λ i j l b. below_next (λ m. i < m → more i ≺ more m) n
+        (λ m h g. same_before _ (same i (omega arith)) (before_same _ (s.ascends i m g h) (sym (same m h))))
+        (λ g. before_same _ (old i g) (sym here)) j b l;
+    good = below_next (λ i. Good (more i)) n (λ i b. subst Good (sym (same i b)) (s.good i b)) (subst Good (sym here) g);
+    before = below_next (λ i. (more i ≺ x) ⊎ (more i ≡ x)) n (λ i b. inl (old i b)) (inr here);
     whole = λ v h. elim [ inl l ↦ (let r = s.whole v h l in (r.0, omega arith, r.2 ∙ sym (same r.0 r.1))) | inr e ↦ (n, omega arith, e ∙ sym here) ];
   }
     where
       old : (i : ℕ) → i < n → more i ≺ x
-      old i b = subst (λ v. v ≺ x) (sym (same i b)) (s.before i b)
-
-      rises : (i j : ℕ) → i < j → Dec (j ≡ n) → j < suc n → more i ≺ more j
-      rises i j l (yes e) b = subst (λ v. more i ≺ v) (sym (ap more e ∙ here)) (old i (omega arith))
-      rises i j l (no u) b = subst (λ v. v ≺ more j) (sym (same i (omega arith))) (subst (λ v. words i ≺ v) (sym (same j (omega arith))) (s.ascends i j l (omega arith)))
-
-      goods : (i : ℕ) → Dec (i ≡ n) → i < suc n → Good (more i)
-      goods i (yes e) b = subst Good (sym (ap more e ∙ here)) g
-      goods i (no u) b = subst Good (sym (same i (omega arith))) (s.good i (omega arith))
-
-      befores : (i : ℕ) → Dec (i ≡ n) → i < suc n → (more i ≺ x) ⊎ (more i ≡ x)
-      befores i (yes e) b = inr (ap more e ∙ here)
-      befores i (no u) b = inl (old i (omega arith))
+      old i b = same_before _ (same i b) (s.before i b)
 
   -- on to y, if no good word stands between
   onward : (n : ℕ) (words : ℕ → Word) (x y : Word) → Upto Good n words x → x ≺ y → ((v : Word) → Good v → x ≺ v → v ≺ y → ⊥) → Scanned Good n words y
   onward n words x y s l clear = record {
     ascends = s.ascends;
     good = s.good;
-    before = λ i b. elim (s.before i b) [ inl h ↦ ≺-transitive (words i) x y h l | inr e ↦ subst (λ v. v ≺ y) (sym e) l ];
+    before = λ i b. elim (s.before i b) [ inl h ↦ ≺-transitive (words i) x y h l | inr e ↦ same_before _ e l ];
     whole = λ v g h. go v g h (≺-compare v x);
   }
     where
@@ -141,7 +132,7 @@ module _ (k : ℕ) (Good : Word → Type 0) (over : (w : Word) → Good w → Ov
           go : (v ≡ []) ⊎ ((u : Word) × (a : ℕ) × (v ≡ u ++ a ∷ [])) → ⊥
           go (inl s) = same_not [] v (sym s) l
           go (inr r) = let f = letter_fits r.0 r.1 (subst Good r.2 h) in
-              elim (≺-push-back r.0 [] r.1 1 (subst (λ x. x ≺ (1 ∷ [])) r.2 b)) [ inl q ↦ none_before r.0 q | inr q ↦ absurd (omega arith) ]
+              elim (≺-push-back r.0 [] r.1 1 (same_before _ (sym r.2) b)) [ inl q ↦ none_before r.0 q | inr q ↦ absurd (omega arith) ]
 
   -- to the next letter
   pub scan_letter : (n : ℕ) (words : ℕ → Word) (u : Word) (a : ℕ) → Upto Good n words (u ++ a ∷ []) → Scanned Good n words (u ++ suc a ∷ [])
@@ -154,9 +145,9 @@ module _ (k : ℕ) (Good : Word → Type 0) (over : (w : Word) → Good w → Ov
       meet v b (inr l) (inr g) = omega arith
 
       go : (v : Word) → (u ++ a ∷ []) ≺ v → v ≺ (u ++ suc a ∷ []) → (v ≡ []) ⊎ ((t : Word) × (b : ℕ) × (v ≡ t ++ b ∷ [])) → ⊥
-      go v l b (inl e) = none_before (u ++ a ∷ []) (subst (λ x. (u ++ a ∷ []) ≺ x) e l)
-      go v l b (inr r) = meet r.0 r.1 (≺-push-back u r.0 a r.1 (subst (λ x. (u ++ a ∷ []) ≺ x) r.2 l))
-          (≺-push-back r.0 u r.1 (suc a) (subst (λ x. x ≺ (u ++ suc a ∷ [])) r.2 b))
+      go v l b (inl e) = none_before (u ++ a ∷ []) (before_same _ l e)
+      go v l b (inr r) = meet r.0 r.1 (≺-push-back u r.0 a r.1 (before_same _ l r.2))
+          (≺-push-back r.0 u r.1 (suc a) (same_before _ (sym r.2) b))
 
   -- what is good and behind u k is a good word behind u with a letter more
   behind : (u v : Word) → Good v → (u ++ k ∷ []) ≺ v → (t : Word) × (b : ℕ) × (v ≡ t ++ b ∷ []) × Good t × (u ≺ t)
@@ -167,9 +158,9 @@ module _ (k : ℕ) (Good : Word → Type 0) (over : (w : Word) → Good w → Ov
       later t b f (inr h) = absurd (omega arith)
 
       go : (v ≡ []) ⊎ ((t : Word) × (b : ℕ) × (v ≡ t ++ b ∷ [])) → (t : Word) × (b : ℕ) × (v ≡ t ++ b ∷ []) × Good t × (u ≺ t)
-      go (inl e) = absurd (none_before (u ++ k ∷ []) (subst (λ x. (u ++ k ∷ []) ≺ x) e l))
+      go (inl e) = absurd (none_before (u ++ k ∷ []) (before_same _ l e))
       go (inr r) = let h : Good (r.0 ++ r.1 ∷ []) = subst Good r.2 g in
-          (r.0, r.1, r.2, front r.0 r.1 h, later r.0 r.1 (letter_fits r.0 r.1 h).1 (≺-push-back u r.0 k r.1 (subst (λ x. (u ++ k ∷ []) ≺ x) r.2 l)))
+          (r.0, r.1, r.2, front r.0 r.1 h, later r.0 r.1 (letter_fits r.0 r.1 h).1 (≺-push-back u r.0 k r.1 (before_same _ l r.2)))
 
   -- to the next word
   pub scan_word : (n : ℕ) (words : ℕ → Word) (i : ℕ) → suc i < n → Upto Good n words (words i ++ k ∷ []) → Scanned Good n words (words (suc i) ++ 1 ∷ [])
@@ -177,7 +168,7 @@ module _ (k : ℕ) (Good : Word → Type 0) (over : (w : Word) → Good w → Ov
     where
       earlier : (t : Word) → t ≺ words (suc i) → (words (suc i) ≺ (words i ++ k ∷ [])) ⊎ (words (suc i) ≡ (words i ++ k ∷ [])) → t ≺ (words i ++ k ∷ [])
       earlier t l (inl h) = ≺-transitive t (words (suc i)) (words i ++ k ∷ []) l h
-      earlier t l (inr e) = subst (λ x. t ≺ x) e l
+      earlier t l (inr e) = before_same _ l e
 
       less : (t : Word) (c : ℕ) → 1 ≤ c → (t ≺ words (suc i)) ⊎ ((t ≡ words (suc i)) × (c < 1)) → t ≺ words (suc i)
       less t c f (inl h) = h
@@ -187,10 +178,10 @@ module _ (k : ℕ) (Good : Word → Type 0) (over : (w : Word) → Good w → Ov
       clear v g l h =
           let r = behind (words i) v g l in
           let q : r.0 ≺ words (suc i) = less r.0 r.1 (letter_fits r.0 r.1 (subst Good r.2 g)).0
-          (≺-push-back r.0 (words (suc i)) r.1 1 (subst (λ x. x ≺ (words (suc i) ++ 1 ∷ [])) r.2 h)) in
+          (≺-push-back r.0 (words (suc i)) r.1 1 (same_before _ (sym r.2) h)) in
           let m = s.whole r.0 r.3 (inl (earlier r.0 q (s.before (suc i) b))) in
-          let low : i < m.0 = number_less n words s.ascends i m.0 (omega arith) m.1 (subst (λ x. words i ≺ x) m.2 r.4) in
-          let high : m.0 < suc i = number_less n words s.ascends m.0 (suc i) m.1 b (subst (λ x. x ≺ words (suc i)) m.2 q) in
+          let low : i < m.0 = number_less n words s.ascends i m.0 (omega arith) m.1 (before_same _ r.4 m.2) in
+          let high : m.0 < suc i = number_less n words s.ascends m.0 (suc i) m.1 b (same_before _ (sym m.2) q) in
           omega arith
 
   -- all of them
@@ -198,7 +189,7 @@ module _ (k : ℕ) (Good : Word → Type 0) (over : (w : Word) → Good w → Ov
   scan_done n words i e s v g = go (≺-compare v (words i ++ k ∷ []))
     where
       nothing : (t : Word) → Good t → words i ≺ t → (t ≺ (words i ++ k ∷ [])) ⊎ (t ≡ (words i ++ k ∷ [])) → ⊥
-      nothing t h l a = let m = s.whole t h a in let low : i < m.0 = number_less n words s.ascends i m.0 (omega arith) m.1 (subst (λ x. words i ≺ x) m.2 l) in omega (arith, m.1)
+      nothing t h l a = let m = s.whole t h a in let low : i < m.0 = number_less n words s.ascends i m.0 (omega arith) m.1 (before_same _ l m.2) in omega (arith, m.1)
 
       clear : (t : Word) → Good t → (words i ++ k ∷ []) ≺ t → ⊥
       clear = ≺-induction (λ t. Good t → (words i ++ k ∷ []) ≺ t → ⊥)
@@ -208,7 +199,7 @@ module _ (k : ℕ) (Good : Word → Type 0) (over : (w : Word) → Good w → Ov
               → (u ≺ (words i ++ k ∷ [])) ⊎ ((u ≡ (words i ++ k ∷ [])) ⊎ ((words i ++ k ∷ []) ≺ u)) → ⊥
           up t before h u b q f l (inl a) = nothing u f l (inl a)
           up t before h u b q f l (inr (inl a)) = nothing u f l (inr a)
-          up t before h u b q f l (inr (inr a)) = before u (subst (λ x. u ≺ x) (sym q) (≺-longer u b [])) f a
+          up t before h u b q f l (inr (inr a)) = before u (before_same _ (≺-longer u b []) (sym q)) f a
 
       go : (v ≺ (words i ++ k ∷ [])) ⊎ ((v ≡ (words i ++ k ∷ [])) ⊎ ((words i ++ k ∷ []) ≺ v)) → (j : ℕ) × (j < n) × (v ≡ words j)
       go (inl a) = s.whole v g (inl a)

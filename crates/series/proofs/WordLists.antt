@@ -1,30 +1,23 @@
 -- Words over 1 to k as lists: those up to a length, those before a word; the least word of which something holds, and all of them in order. Assumes nothing.
-use Rattle.std.proofs.Common.{◌≡◌, ℕ, zero, suc, ◌<◌, ◌≤◌, ◌⊎◌, List, [], ◌∷◌, ◌++◌, map, length, sym, refl, ◌∙◌, subst, inl, inr, arith}
+use Rattle.std.proofs.Common.{◌≡◌, ℕ, zero, suc, ◌-◌, ◌<◌, ◌≤◌, ◌⊎◌, List, [], ◌∷◌, ◌++◌, map, length, get_or, sym, refl, ◌∙◌, subst, inl, inr, arith}
 use native.Mathlib.Decide.{ℕ_discrete}
 use native.Mathlib.Nat.{suc_inj}
 use Rattle.series.specs.Words.{Word, Over, ◌≺◌}
 use Rattle.series.specs.Listing.{Count}
+use Rattle.series.proofs.Places.{range, range_has, range_are}
 use Rattle.series.proofs.Lists.{Among, among_left, among_right, among_either, among_map, among_map_back, those, among_those, among_those_back, find}
-use Rattle.series.proofs.Orders.{≺-compare, ≺-transitive, ≺-decide, ≺-induction, no_longer}
+use Rattle.series.proofs.Orders.{≺-compare, ≺-transitive, ≺-decide, ≺-induction, no_longer, before_same}
 
 letters : ℕ → List ℕ
-letters zero = []
-letters (suc k) = suc k ∷ letters k
+letters k = map suc (range k)
 
 letters_have : (k a : ℕ) → 1 ≤ a → a ≤ k → Among (letters k) a
 unfolding letters
-letters_have zero a l h = absurd (omega arith)
-letters_have (suc k) a l h = go (ℕ_discrete a (suc k)) (λ b. letters_have k a l b)
-  where
-    go : Dec (a ≡ suc k) → (a ≤ k → Among (letters k) a) → (a ≡ suc k) ⊎ Among (letters k) a
-    go (yes e) before = inl e
-    go (no u) before = inr (before (omega arith))
+letters_have k a l h = let e : suc (a - 1) ≡ a = omega arith in subst (Among (map suc (range k))) e (among_map suc (range k) (a - 1) (range_has k (a - 1) (omega arith)))
 
 letters_are : (k a : ℕ) → Among (letters k) a → (1 ≤ a) × (a ≤ k)
 unfolding letters
-letters_are zero a h = absurd h
-letters_are (suc k) a (inl e) = (omega arith, omega arith)
-letters_are (suc k) a (inr h) = let r = letters_are k a h in (r.0, omega arith)
+letters_are k a h = let r = among_map_back suc (range k) a h in let b = range_are k r.0 r.1 in (omega (arith, r.2), omega (arith, r.2))
 
 spread : List ℕ → List Word → List Word
 spread [] ws = []
@@ -122,11 +115,11 @@ insert x [] a = record { list = x ∷ []; ascends = ((λ v h. absurd h), tt); fr
 insert x (y ∷ ys) a = go (≺-compare x y) (insert x ys a.1)
   where
     go : (x ≺ y) ⊎ ((x ≡ y) ⊎ (y ≺ x)) → Sorted (x ∷ ys) → Sorted (x ∷ y ∷ ys)
-    go (inl l) r = record { list = x ∷ y ∷ ys; ascends = (λ v. elim [ inl e ↦ subst (λ w. x ≺ w) (sym e) l | inr h ↦ ≺-transitive x y v l (a.0 v h) ], a); from = λ v h. h; to = λ v h. h }
+    go (inl l) r = record { list = x ∷ y ∷ ys; ascends = (λ v. elim [ inl e ↦ before_same _ l (sym e) | inr h ↦ ≺-transitive x y v l (a.0 v h) ], a); from = λ v h. h; to = λ v h. h }
     go (inr (inl e)) r = record { list = y ∷ ys; ascends = a; from = λ v h. inr h; to = λ v. elim [ inl q ↦ inl (q ∙ e) | inr h ↦ h ] }
     go (inr (inr g)) r = record {
       list = y ∷ r.list;
-      ascends = ((λ v h. elim (r.from v h) [ inl e ↦ subst (λ w. y ≺ w) (sym e) g | inr q ↦ a.0 v q ]), r.ascends);
+      ascends = ((λ v h. elim (r.from v h) [ inl e ↦ before_same _ g (sym e) | inr q ↦ a.0 v q ]), r.ascends);
       from = λ v. elim [ inl e ↦ inr (inl e) | inr h ↦ elim (r.from v h) [ inl e ↦ inl e | inr q ↦ inr (inr q) ] ];
       to = λ v. elim [ inl e ↦ inr (r.to v (inl e)) | inr (inl e) ↦ inl e | inr (inr h) ↦ inr (r.to v (inr h)) ];
     }
@@ -144,29 +137,21 @@ sort (x ∷ xs) = go (sort xs)
     }
 
 -- the words of a list by number
-number : (xs : List Word) → ℕ → Word
-number [] i = []
-number (x ∷ xs) zero = x
-number (x ∷ xs) (suc i) = number xs i
-
-number_among : (xs : List Word) (i : ℕ) → i < length xs → Among xs (number xs i)
-unfolding number
+number_among : (xs : List Word) (i : ℕ) → i < length xs → Among xs (get_or xs i [])
 number_among [] i l = absurd (omega arith)
 number_among (x ∷ xs) zero l = inl refl
 number_among (x ∷ xs) (suc i) l = inr (number_among xs i (omega arith))
 
-among_number : (xs : List Word) (v : Word) → Among xs v → (i : ℕ) × (i < length xs) × (v ≡ number xs i)
-unfolding number
+among_number : (xs : List Word) (v : Word) → Among xs v → (i : ℕ) × (i < length xs) × (v ≡ get_or xs i [])
 among_number [] v h = absurd h
 among_number (x ∷ xs) v (inl e) = (0, omega arith, e)
 among_number (x ∷ xs) v (inr h) = let r = among_number xs v h in (suc r.0, omega (arith, r.1), r.2)
 
-number_ascends : (xs : List Word) → Ascending xs → (i j : ℕ) → i < j → j < length xs → number xs i ≺ number xs j
-unfolding number
+number_ascends : (xs : List Word) → Ascending xs → (i j : ℕ) → i < j → j < length xs → get_or xs i [] ≺ get_or xs j []
 number_ascends [] a i j l h = absurd (omega arith)
 number_ascends (x ∷ xs) a zero zero l h = absurd (omega arith)
 number_ascends (x ∷ xs) a (suc i) zero l h = absurd (omega arith)
-number_ascends (x ∷ xs) a zero (suc j) l h = a.0 (number xs j) (number_among xs j (omega arith))
+number_ascends (x ∷ xs) a zero (suc j) l h = a.0 (get_or xs j []) (number_among xs j (omega arith))
 number_ascends (x ∷ xs) a (suc i) (suc j) l h = number_ascends xs a.1 i j (omega arith) (omega arith)
 
 -- the words of which D holds, if they are among those of a list
@@ -174,10 +159,10 @@ pub listed_decidable : (D : Word → Type 0) → ((w : Word) → Dec (D w)) → 
 listed_decidable D decide xs inside = let r = sort (those D decide xs) in (
   length r.list,
   (
-    number r.list,
+    (λ i. get_or r.list i []),
     record {
       ascends = number_ascends r.list r.ascends;
-      good = λ i l. (among_those_back D decide xs (number r.list i) (r.from (number r.list i) (number_among r.list i l))).1;
+      good = λ i l. (among_those_back D decide xs (get_or r.list i []) (r.from (get_or r.list i []) (number_among r.list i l))).1;
       whole = λ v h. among_number r.list v (r.to v (among_those D decide xs v (inside v h) h));
     },
   ),

@@ -1,7 +1,8 @@
 -- Words and their letters. Assumes nothing.
-use Rattle.std.proofs.Common.{◌≡◌, ℕ, ◌≤◌, ◌⊎◌, [], ◌∷◌, ◌++◌, reverse, sym, refl, ap, subst, inl, inr}
+use Rattle.std.proofs.Common.{◌≡◌, ℕ, ◌⊎◌, [], ◌∷◌, ◌++◌, reverse, sym, refl, ap, subst, inl, inr}
 use mathlib.Core.List.{reverse-append}
-use native.Mathlib.Decide.{dec_le}
+use mathlib.Core.Logic.Dec.{and as both}
+use native.Mathlib.Decide.{dec_le, map_dec}
 use Rattle.series.specs.Words.{Word, Over}
 
 pub over_append : (k : ℕ) (u v : Word) → Over k u → Over k v → Over k (u ++ v)
@@ -18,13 +19,7 @@ over_rest k (a ∷ u) v o = over_rest k u v o.2
 
 pub over_decide : (k : ℕ) (w : Word) → Dec (Over k w)
 over_decide k [] = yes tt
-over_decide k (a ∷ w) = go (dec_le 1 a) (dec_le a k) (over_decide k w)
-  where
-    go : Dec (1 ≤ a) → Dec (a ≤ k) → Dec (Over k w) → Dec (Over k (a ∷ w))
-    go (no u) h o = no (λ p. u p.0)
-    go (yes l) (no u) o = no (λ p. u p.1)
-    go (yes l) (yes h) (no u) = no (λ p. u p.2)
-    go (yes l) (yes h) (yes o) = yes (l, h, o)
+over_decide k (a ∷ w) = map_dec (λ p. (p.0, p.1.0, p.1.1)) (λ o. (o.0, (o.1, o.2))) (both (dec_le 1 a) (both (dec_le a k) (over_decide k w)))
 
 -- a word is empty, or has a last letter
 pub last_letter : (w : Word) → (w ≡ []) ⊎ ((u : Word) × (a : ℕ) × (w ≡ u ++ a ∷ []))

@@ -1,5 +1,5 @@
-//! The mathematics of sequence tables, over every lawful field. A theorem is a function that gives back what it is
-//! given: its promise is the theorem, which the check therefore asks for. The statements are in specs/Theorems.antt.
+//! The mathematics of sequence tables, over every lawful field. A theorem is a function that does nothing: its promise is
+//! the theorem, which the check therefore asks for. The statements are in specs/Theorems.antt.
 #![tactic(auto)]
 
 ghost use Rattle.std.specs.Prelude.{◌≡◌, ℕ, ◌+◌, ◌*◌, ◌<◌, ◌≤◌, ◌∷◌, reverse};
@@ -15,122 +15,90 @@ use field::Field;
 
 /// The weights of the tables that sum, scale, multiply, after and turn define: f + g, c·f, f·g, f of the letter
 /// followed by the word, and f of the word read backwards.
-pub fn operations_weigh<F: Field>(x: F) -> F
+pub fn operations_weigh<F: Field>()
     ensures sum { Combines F.field (sum_table F.field) F.field.plus }
     ensures scale { (c : F.Value) → Maps F.field (scaled_table F.field c) (F.field.times c) }
     ensures multiply { Combines F.field (product_table F.field) F.field.times }
     ensures after { (a : ℕ) → Rereads F.field (after_table F.field a) (λ w. a ∷ w) }
     ensures turn { Rereads F.field (turned_table F.field) reverse }
-{
-    x
-}
+{}
 
 /// More vectors than dimensions depend on each other.
-pub fn many_vectors_depend<F: Field>(x: F) -> F
+pub fn many_vectors_depend<F: Field>()
     ensures more_than_dimensions { DependWhere F.field (λ d n. d < n) }
-{
-    x
-}
+{}
 
 /// Whether a vector is a combination of finitely many others is decidable.
-pub fn combinations_are_decidable<F: Field>(x: F) -> F
+pub fn combinations_are_decidable<F: Field>()
     ensures decidable { CombinationDecidable F.field }
-{
-    x
-}
+{}
 
 /// A prefix of a kept word is kept.
-pub fn prefixes_are_kept<F: Field>(x: F) -> F
+pub fn prefixes_are_kept<F: Field>()
     ensures kept { KeptPrefix F.field }
-{
-    x
-}
+{}
 
 /// Every pair row is a combination of pair rows of kept words not after it.
-pub fn kept_words_span<F: Field>(x: F) -> F
+pub fn kept_words_span<F: Field>()
     ensures combination { KeptSpan F.field }
-{
-    x
-}
+{}
 
 /// A kept word has fewer letters than both tables have states together.
-pub fn kept_words_are_short<F: Field>(x: F) -> F
+pub fn kept_words_are_short<F: Field>()
     ensures fewer_letters { KeptShorter F.field (λ S T. S.states + T.states) }
-{
-    x
-}
+{}
 
 /// There are at most as many kept words as both tables have states together.
-pub fn kept_words_are_few<F: Field>(x: F) -> F
+pub fn kept_words_are_few<F: Field>()
     ensures number { KeptNumber F.field (λ S T. S.states + T.states) }
-{
-    x
-}
+{}
 
 /// Two tables weigh every word alike exactly when they weigh every kept word alike.
-pub fn kept_words_decide<F: Field>(x: F) -> F
+pub fn kept_words_decide<F: Field>()
     ensures exactly { KeptDecide F.field }
-{
-    x
-}
+{}
 
 /// If some word differs, there is a least such word; it is kept, and has fewer letters than both tables have states
 /// together.
-pub fn least_difference_is_kept<F: Field>(x: F) -> F
+pub fn least_difference_is_kept<F: Field>()
     ensures exists { DifferenceHasLeast F.field }
     ensures kept_and_short { LeastDifferenceShorter F.field (λ S T. S.states + T.states) }
-{
-    x
-}
+{}
 
 /// Two tables weigh every word alike, or there is a least word that differs.
-pub fn tables_compare<F: Field>(x: F) -> F
+pub fn tables_compare<F: Field>()
     ensures decided { AlikeOrDifference F.field }
-{
-    x
-}
+{}
 
 /// There is one tried word, and k more for each kept word, where there are k letters.
-pub fn tried_words_number<F: Field>(x: F) -> F
+pub fn tried_words_number<F: Field>()
     ensures number { TriedNumber F.field (λ k n. 1 + k * n) }
-{
-    x
-}
+{}
 
 /// Tables that agree number for number weigh every word over their letters alike.
-pub fn same_tables_weigh_alike<F: Field>(x: F) -> F
+pub fn same_tables_weigh_alike<F: Field>()
     ensures alike { SameWeights F.field }
-{
-    x
-}
+{}
 
 /// The reduced form weighs as the function does.
-pub fn reduced_form_weighs<F: Field>(x: F) -> F
+pub fn reduced_form_weighs<F: Field>()
     ensures weight { ReducedWeights F.field }
-{
-    x
-}
+{}
 
 /// No table that weighs as the function does has fewer states than the reduced form.
-pub fn reduced_form_is_smallest<F: Field>(x: F) -> F
+pub fn reduced_form_is_smallest<F: Field>()
     ensures no_fewer_states { ReducedStates F.field (λ r t. r ≤ t) }
-{
-    x
-}
+{}
 
 /// Two reduced forms agree number for number exactly when their functions agree on every word.
-pub fn reduced_form_is_canonical<F: Field>(x: F) -> F
+pub fn reduced_form_is_canonical<F: Field>()
     ensures exactly { ReducedCanonical F.field }
-{
-    x
-}
+{}
 
 /// Every function that a table weighs has a reduced form.
-pub fn reduced_form_exists<F: Field>(x: F) -> F
+pub fn reduced_form_exists<F: Field>()
     ensures exists { ReducedExists F.field }
-{
-    x
-}
+{}
 
 /// Shortlex has the laws of a word order.
 pub fn shortlex_is_a_word_order()

@@ -3,5 +3,5 @@ use lib.Bits.{bit_xor}
 use Rattle.byte.specs.Product.{partial, product}
 use Rattle.byte.proofs.product.Given as goal
 
-abbrev pub invariant-loop-i : goal.invariant-loop-i
-invariant-loop-i l = (l.x < 256) × (bit_xor l.sum (partial (8 - l._i) l.x l.y) ≡ product l.initial.x l.initial.y)
+abbrev pub invariant-loop : goal.invariant-loop
+invariant-loop l = (l.x < 256) × (bit_xor l.sum (partial (8 - l.counter) l.x l.y) ≡ product l.initial.x l.initial.y)

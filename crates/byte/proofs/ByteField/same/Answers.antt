@@ -1,7 +1,5 @@
-use Rattle.std.proofs.Common.{ap}
-use Rattle.std.proofs.lemmas.Bool.{eqb-true, eq-eqb}
-use Rattle.field.specs.Below.{same_below}
+use Rattle.field.specs.Below.{same_decided}
 use Rattle.byte.proofs.ByteField.same.Goals as goal
 
 pub returns : goal.returns
-returns c = record { decides_equality = (λ t. same_below _ _ (eqb-true _ _ t), λ e. eq-eqb _ _ (ap (λ x. x.n) e)) }
+returns c = record { decides_equality = rw c.eq.ensures (same_decided _ _) }

@@ -1,7 +1,5 @@
-use Rattle.std.proofs.Common.{ap}
-use Rattle.std.proofs.lemmas.Bool.{eqb-true, eq-eqb}
-use Rattle.field.specs.Below.{same_below}
+use Rattle.field.specs.Below.{same_decided}
 use Rattle.loose.proofs.LooseField.same.Goals as goal
 
 pub returns : goal.returns
-returns g c = record { decides_equality = (λ t. same_below _ _ (eqb-true _ _ t), λ e. eq-eqb _ _ (ap (λ x. x.n) e)) }
+returns g c = record { decides_equality = rw (c.code.ensures.is_code, c.code-2.ensures.is_code) (same_decided _ _) }

@@ -1,6 +1,8 @@
-use Rattle.std.proofs.Common.{sym, mod-eq_of_lt}
+use Rattle.std.proofs.Common.{◌<◌, sym, mod-eq_of_lt, arith}
 use Rattle.field.specs.Below.{same_below}
 use Rattle.residue.proofs.ResidueField.from_code.Goals as goal
 
-pub returns-then-n : goal.returns-then-n
-returns-then-n g c = record { is_decoded_below_order = (c.if-n.true, same_below _ _ (sym (mod-eq_of_lt c.if-n.true))) }
+pub returns-then-n-order : goal.returns-then-n-order
+returns-then-n-order g c =
+    let low : c.args.n < g.row.P = omega arith in
+    record { is_decoded_below_order = (low, same_below _ _ (sym (mod-eq_of_lt low))) }
