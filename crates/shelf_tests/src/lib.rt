@@ -12,6 +12,7 @@ mod tests {
     use book::verdict::{Kind, Verdict};
     use byte::Byte;
     use columns::column::put_number;
+    use faults::{LineFault, LoadFault, Position};
     use field::Field;
     use loose::Loose;
     use residue::{Bit, Fermat};
@@ -1364,5 +1365,46 @@ mod tests {
             kept: 4,
         };
         check_lists(&rt, &mut shelf, &mut work, &mut output, known)
+    }
+
+    // The reason of a refusal, for a person.
+    #[test]
+    fn refusals_in_words(rt: HostRuntime) -> Result<(), Fail> {
+        let at = Position { line: 1, column: 2 };
+        let told = [
+            (Refusal::PlaceOutside, "a place is outside 1 to 8"),
+            (
+                Refusal::LetterOutside { position: 1 },
+                "a letter is outside the table's letters",
+            ),
+            (
+                Refusal::Unreadable(LoadFault::Line(LineFault::Ends(at))),
+                "the text ends where a byte is due",
+            ),
+            (
+                Refusal::Unreadable(LoadFault::Beyond(at)),
+                "nothing may follow the last line",
+            ),
+        ];
+        for (refusal, words) in told {
+            let shown = format!(in rt.alloc(); "{refusal}")?;
+            assert_eq!(rt; shown.as_str(), words);
+        }
+        Ok(())
+    }
+
+    // A call that owns its word lends it to the call that is made.
+    #[test]
+    fn a_call_that_owns_its_word(rt: HostRuntime) -> Result<(), Fail> {
+        let word = vec![in rt.alloc(); 1u8, 2]?;
+        let call = Call::Weigh { place: 3, word };
+        match call.borrowed() {
+            Call::Weigh { place, word } => {
+                assert_eq!(rt; place, 3);
+                assert_eq!(rt; word, [1, 2].as_slice());
+            }
+            _ => return Err(Fail::new("another call")),
+        }
+        Ok(())
     }
 }
