@@ -41,6 +41,7 @@ pub fn put_number(columns: &mut [u8], value: u64)
     ensures written { columns.new ≡ number value }
 {
     for (i, column) in columns.iter_mut().enumerate() {
+        // the number that the columns up to this one hold
         let front = value / 10u64.pow((LAST - i) as u32);
         *column = if front == 0 && i < LAST {
             b' '
@@ -57,6 +58,7 @@ pub fn put_numbers<I: Iterator<Item = u64> + Drop>(out: &mut [u8], values: I)
     requires fill { (vs : List ℕ) × Gives I.next_gives values vs × TenDigits vs × (length out.old ≡ 11 * length vs) }
     ensures written { (vs : List ℕ) → Gives I.next_gives values vs → out.new ≡ numbers vs }
 {
+    // no `enumerate`, which would count the values only for the elevenfold of its count
     let mut at = 0;
     for value in values {
         put_number(&mut out[at..at + 11], value);
