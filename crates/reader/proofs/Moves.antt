@@ -5,7 +5,8 @@ use Rattle.std.specs.declared.option.Option.TheVariants.{Some, None}
 use Rattle.std.specs.declared.result.Result.{Result}
 use Rattle.std.specs.declared.result.Result.TheVariants.{Ok, Err}
 use Rattle.std.specs.Option.{ok_or, MatchOption}
-use Rattle.std.specs.Result.{result_or, MatchResult}
+use Rattle.std.specs.Result.{result_or, MatchResult, IsErrAnd}
+use Rattle.std.proofs.lemmas.Result.{err_from_is_err_and}
 use Rattle.std.proofs.lemmas.List.{take_all, length-take, take-take, take-append-drop}
 use Rattle.columns.specs.Numbers.{number, Begins, Broken, Holds}
 use Rattle.columns.specs.Lines.{letter, due_letter}
@@ -17,6 +18,10 @@ use Rattle.columns.specs.declared.line.Due.{Due}
 use Rattle.columns.specs.declared.line.Due.TheVariants.{Table, Start, Matrix, End, Close, Nothing}
 use Rattle.faults.specs.declared.ColumnFault.{ColumnFault}
 use Rattle.faults.specs.declared.LineFault.TheVariants.{Column, Ends, Unexpected, Unended}
+
+-- what holds where a `?` returns
+pub exits : {T E : Type 0} (r : Result T E) (e : E) (P : T → Type 0) (Q : E → Type 0) → IsErrAnd r (λ y. y ≡ e) → Q e → MatchResult r P Q
+exits r e P Q gives q = let p = err_from_is_err_and r gives in rw (p.1, p.2) q
 
 -- what an `Option` was that gave an error for `None`
 pub ok_or_err : {A E : Type 0} (o : Option A) (P : Type 0) (Q : A → Type 0) {f : E} (e : E) → Err f ≡ ok_or o e → MatchOption o P Q → (f ≡ e) × P

@@ -3,20 +3,19 @@ use Rattle.std.specs.declared.option.Option.{Option}
 use Rattle.std.specs.declared.option.Option.TheVariants.{Some, None}
 use Rattle.std.specs.Option.{MatchOption, ok_or}
 use Rattle.std.specs.Result.{MatchResult}
-use Rattle.std.proofs.lemmas.Result.{err_from_is_err_and}
 use Rattle.field.specs.FiniteField.{FiniteField}
 use Rattle.columns.specs.Numbers.{number}
 use Rattle.reader.specs.Items.{ranged, along, Stopped}
 use Rattle.reader.specs.Steps.{left, Went}
 use Rattle.reader.specs.declared.Reader.{Reader}
 use Rattle.faults.specs.declared.LoadFault.TheVariants.{Value}
+use Rattle.reader.proofs.Moves.{exits}
 use Rattle.reader.proofs.Runs.{misfits}
 use Rattle.reader.proofs.Reader.element.Goals as goal
 
 pub returns-in_err-code : goal.returns-in_err-code
 returns-in_err-code g c =
-    let p = err_from_is_err_and c.from_residual.result c.from_residual.ensures.1 in
-    rw (p.1, p.2) (record { element_or_stopped = c.in_err-code.ensures.number_or_halted 0 _ })
+    record { element_or_stopped = exits _ _ _ _ c.from_residual.ensures.1 (c.in_err-code.ensures.number_or_halted 0 _) }
 
 -- the element of a code that is read, or why there is none
 decoded : {F V : Type 0} (K : FiniteField V) (value : F → V) (r s : Reader) (n : ℕ) (o : Option F) → n < 10 ^ 10 → Went r s (number n) (along r.position 11) → MatchOption o (K.q ≤ n) (λ x. (n < K.q) × (value x ≡ K.decode n))
