@@ -1,7 +1,7 @@
 -- Lengths of lines, and what equal lines tell. Assumes nothing.
 use Rattle.std.proofs.Common.{◌≡◌, ℕ, zero, suc, ◌+◌, ◌-◌, ◌*◌, ◌^◌, ◌<◌, ◌≤◌, List, [], ◌∷◌, ◌++◌, length, take, drop, replicate, decimal, sym, refl, ap, ◌∙◌, ⊎_elim, append_assoc, add-mul, zero-mul, add-one, arith}
 use native.Mathlib.Nat.{pow-le-pow_right}
-use Rattle.std.specs.List.{range_with_len, flat_map, AllByRecursion as All}
+use Rattle.std.specs.List.{range_with_len, flat_map}
 use Rattle.std.specs.Str.Parse.{AllDigits, digits_value as number_of_lem}
 use Rattle.std.proofs.lemmas.List.{length-append, length-replicate, flat_map_more, take_at, drop_at}
 use Rattle.std.proofs.lemmas.Bool.{cases_eq}
@@ -9,13 +9,9 @@ use Rattle.std.proofs.lemmas.Str.Parse.{numerals_by_value, tells_digits}
 use Rattle.std.proofs.lemmas.Int.Digits.{digits_value-lt}
 use Rattle.std.proofs.lemmas.Fmt.{decimal-digits_value, decimal_is_IsNumeral, decimal_nonempty, decimal_digit, length-decimal-le, first_decimal}
 use Rattle.columns.specs.Numbers.{number}
-use Rattle.columns.specs.Lines.{numbers, line}
+use Rattle.columns.specs.Lines.{numbers, line, TenDigits}
 use Rattle.columns.specs.Facts.{Shaped, LegalIs}
 use Rattle.columns.proofs.Begun.{number_begun, length_number, begun_same}
-
--- numbers of at most ten digits
-abbrev pub Small : List ℕ → Type 0
-Small vs = All (λ v. v < 10 ^ 10) vs
 
 shaped_number : (bs : List ℕ) → Shaped bs → (v : ℕ) × (v < 10 ^ 10) × (bs ≡ number v)
 unfolding number
@@ -49,11 +45,11 @@ legal_is = (shaped_number, number_shaped)
 pub numbers_more : (vs : List ℕ) (v : ℕ) → numbers (vs ++ v ∷ []) ≡ numbers vs ++ number v
 numbers_more vs v = sym (flat_map_more number [] vs v)
 
-pub length_numbers : (vs : List ℕ) → Small vs → length (numbers vs) ≡ 11 * length vs
+pub length_numbers : (vs : List ℕ) → TenDigits vs → length (numbers vs) ≡ 11 * length vs
 length_numbers [] s = refl
 length_numbers (v ∷ vs) s = length-append (number v) (numbers vs) ∙ omega (arith, length_number v s.0, length_numbers vs s.1)
 
-pub length_line : (k : ℕ) (vs : List ℕ) → Small vs → length (line k vs) ≡ 2 + 11 * length vs
+pub length_line : (k : ℕ) (vs : List ℕ) → TenDigits vs → length (line k vs) ≡ 2 + 11 * length vs
 length_line k vs s = omega (arith, length-append (numbers vs) (10 ∷ []), length_numbers vs s)
 
 pub length_joined : (f : ℕ → List ℕ) (w a m : ℕ) → ((i : ℕ) → a ≤ i → i < a + m → length (f i) ≡ w) → length (flat_map f (range_with_len a m)) ≡ m * w
@@ -69,7 +65,7 @@ append_parts a b x y e h = (
 pub number_same : (v w : ℕ) → v < 10 ^ 10 → w < 10 ^ 10 → number v ≡ number w → v ≡ w
 number_same v w h k e = begun_same 11 v w (omega arith) (omega arith) (sym (number_begun v h) ∙ e ∙ number_begun w k)
 
-numbers_same : (vs ws : List ℕ) → length vs ≡ length ws → Small vs → Small ws → numbers vs ≡ numbers ws → vs ≡ ws
+numbers_same : (vs ws : List ℕ) → length vs ≡ length ws → TenDigits vs → TenDigits ws → numbers vs ≡ numbers ws → vs ≡ ws
 numbers_same [] [] e s u h = refl
 numbers_same [] (w ∷ ws) e s u h = absurd (omega arith)
 numbers_same (v ∷ vs) [] e s u h = absurd (omega arith)
@@ -78,7 +74,7 @@ numbers_same (v ∷ vs) (w ∷ ws) e s u h =
     λ i. number_same v w s.0 u.0 parts.0 i ∷ numbers_same vs ws (omega arith) s.1 u.1 parts.1 i
 
 -- two lines of one kind and as many numbers, with what follows them
-pub line_same : (k : ℕ) (vs ws x y : List ℕ) → length vs ≡ length ws → Small vs → Small ws → line k vs ++ x ≡ line k ws ++ y → (vs ≡ ws) × (x ≡ y)
+pub line_same : (k : ℕ) (vs ws x y : List ℕ) → length vs ≡ length ws → TenDigits vs → TenDigits ws → line k vs ++ x ≡ line k ws ++ y → (vs ≡ ws) × (x ≡ y)
 line_same k vs ws x y e s u h =
     let all = append_parts (line k vs) (line k ws) x y (length_line k vs s ∙ ap (λ n. 2 + 11 * n) e ∙ sym (length_line k ws u)) h in
     let body = append_parts (numbers vs) (numbers ws) (10 ∷ []) (10 ∷ []) (length_numbers vs s ∙ ap (λ n. 11 * n) e ∙ sym (length_numbers ws u)) (ap (drop 1) all.0) in

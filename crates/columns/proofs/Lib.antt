@@ -1,2 +1,3 @@
 pub mod Begun
 pub mod Lengths
+pub mod Filled

@@ -1,6 +1,7 @@
 -- The kinds of lines, and which is due after which. Assumes nothing.
-use Rattle.std.specs.Prelude.{ℕ, zero, suc, List, [], ◌∷◌, ◌++◌}
-use Rattle.std.specs.List.{flat_map}
+use Rattle.std.specs.Prelude.{ℕ, zero, suc, ◌^◌, ◌<◌, List, [], ◌∷◌, ◌++◌, Option}
+use Rattle.std.specs.Iterator.{AlwaysYields}
+use Rattle.std.specs.List.{flat_map, AllByRecursion as All}
 use Rattle.columns.specs.Numbers.{number}
 use Rattle.columns.specs.declared.line.Kind.{Kind}
 use Rattle.columns.specs.declared.line.Kind.TheVariants as kind
@@ -41,6 +42,14 @@ next rows Nothing = Nothing
 -- the numbers of a line, one after another
 abbrev pub numbers : List ℕ → List ℕ
 numbers vs = flat_map number vs
+
+-- each has at most ten digits
+abbrev pub TenDigits : List ℕ → Type 0
+TenDigits vs = All (λ v. v < 10 ^ 10) vs
+
+-- an iterator gives just these numbers, and then ends
+abbrev pub Gives : {S : Type 0} → (S → Option ℕ → S → Type 0) → S → List ℕ → Type 0
+Gives steps s vs = AlwaysYields steps (λ v. v) s vs
 
 -- a line: its first byte, its numbers, and byte 10
 abbrev pub line : ℕ → List ℕ → List ℕ

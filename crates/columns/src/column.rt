@@ -1,6 +1,8 @@
 //! A number in its eleven columns.
-ghost use Rattle.std.specs.Prelude.{◌≡◌, ℕ, ◌+◌, ◌^◌, ◌<◌, ◌≤◌, length, MatchResult};
+ghost use Rattle.std.specs.Prelude.{◌≡◌, ℕ, ◌+◌, ◌*◌, ◌^◌, ◌<◌, ◌≤◌, List, length, MatchResult};
+ghost use Rattle.std.specs.Iterator.{IsFinite};
 ghost use Rattle.columns.specs.Numbers.{Broken, Holds, number};
+ghost use Rattle.columns.specs.Lines.{numbers, Gives, TenDigits};
 
 use faults::{ColumnFault, Position};
 
@@ -19,7 +21,7 @@ pub fn columns(bytes: &[u8], start: Position) -> Result<u64, ColumnFault>
         value = match *b {
             b' ' if value == 0 && i < LAST => 0,
             b'0' if value > 0 || i == LAST => value * 10,
-            b'1'..=b'9' if i > 0 => value * 10 + (*b - b'0') as u64,
+            b'1'..=b'9' if i > 0 => value * 10 + u64::from(*b - b'0'),
             _ => {
                 let position = Position {
                     line: start.line,
@@ -38,13 +40,28 @@ pub fn put_number(columns: &mut [u8], value: u64)
     requires ten_digits { value < 10 ^ 10 }
     ensures written { columns.new ≡ number value }
 {
-    let mut rest = value;
-    for i in (0..11).rev() {
-        columns[i] = if rest == 0 && i < 10 {
+    for (i, column) in columns.iter_mut().enumerate() {
+        // the number that the columns up to this one hold
+        let front = value / 10u64.pow((LAST - i) as u32);
+        *column = if front == 0 && i < LAST {
             b' '
         } else {
-            b'0' + (rest % 10) as u8
+            b'0' + (front % 10) as u8
         };
-        rest /= 10;
+    }
+}
+
+/// Writes the values into their columns, one after another.
+pub fn put_numbers<I: Iterator<Item = u64> + Drop>(out: &mut [u8], values: I)
+    requires can { I.can_next values }
+    requires ends { IsFinite (I.remaining values) }
+    requires fill { (vs : List ℕ) × Gives I.next_gives values vs × TenDigits vs × (length out.old ≡ 11 * length vs) }
+    ensures written { (vs : List ℕ) → Gives I.next_gives values vs → out.new ≡ numbers vs }
+{
+    // no `enumerate`, which would count the values only for the elevenfold of its count
+    let mut at = 0;
+    for value in values {
+        put_number(&mut out[at..at + 11], value);
+        at += 11;
     }
 }

@@ -1,9 +1,12 @@
-//! The kinds of lines, and which may come.
-ghost use Rattle.std.specs.Prelude.{◌≡◌, MatchOption, ◌≢◌};
-ghost use Rattle.columns.specs.Lines.{letter as letter_of, due_letter, row_due, next};
+//! The kinds of lines, which may come, and how one is written.
+ghost use Rattle.std.specs.Prelude.{◌≡◌, MatchOption, MatchResult, ◌≢◌, ℕ, List, ◌+◌, ◌*◌, length};
+ghost use Rattle.std.specs.Iterator.{IsFinite};
+ghost use Rattle.columns.specs.Lines.{letter as letter_of, due_letter, row_due, next, line as line_of, Gives, TenDigits};
+
+use crate::column::put_numbers;
 
 /// The kinds of lines, by their first byte T, S, M, E or Z.
-#[derive(Clone, Copy)]
+#[derive(Clone, Copy, Debug, PartialEq, Eq)]
 pub enum Kind {
     Table,
     Start,
@@ -12,8 +15,13 @@ pub enum Kind {
     Close,
 }
 
+/// A letter that no kind of line begins with.
+#[derive(Clone, Copy, Debug, PartialEq, Eq)]
+pub struct UnknownKind(pub char);
+
 /// The line that is due: of a kind, or none after the last.
-#[derive(Clone, Copy)]
+// No `Option<Kind>`: `turn` matches on two plain enums, a case for each pair that may come.
+#[derive(Clone, Copy, Debug, PartialEq, Eq)]
 pub enum Due {
     Table,
     Start,
@@ -24,29 +32,37 @@ pub enum Due {
 }
 
 /// The kind of a line that begins with this letter.
-pub fn kind_of(letter: char) -> Option<Kind>
-    ensures kind_or_none { MatchOption result ((k : Kind) → letter_of k ≢ letter) (λ k. letter_of k ≡ letter) }
-{
-    match letter {
-        'T' => Some(Kind::Table),
-        'S' => Some(Kind::Start),
-        'M' => Some(Kind::Matrix),
-        'E' => Some(Kind::End),
-        'Z' => Some(Kind::Close),
-        _ => None,
+impl TryFrom<char> for Kind {
+    type Error = UnknownKind;
+
+    ghost use Rattle.columns.specs.declared.line.Kind.{Kind};
+
+    ghost try_from_gives = { λ letter r. MatchResult r (λ k. letter_of k ≡ letter) (λ _. (k : Kind) → letter_of k ≢ letter) };
+
+    fn try_from(letter: char) -> Result<Kind, UnknownKind> {
+        match letter {
+            'T' => Ok(Kind::Table),
+            'S' => Ok(Kind::Start),
+            'M' => Ok(Kind::Matrix),
+            'E' => Ok(Kind::End),
+            'Z' => Ok(Kind::Close),
+            _ => Err(UnknownKind(letter)),
+        }
     }
 }
 
 /// The first byte of a line of this kind.
-pub fn letter_of(kind: Kind) -> u8
-    ensures its_letter { result ≡ letter_of kind }
-{
-    match kind {
-        Kind::Table => b'T',
-        Kind::Start => b'S',
-        Kind::Matrix => b'M',
-        Kind::End => b'E',
-        Kind::Close => b'Z',
+impl From<Kind> for u8 {
+    ghost from_gives = { λ kind byte. byte ≡ letter_of kind };
+
+    fn from(kind: Kind) -> u8 {
+        match kind {
+            Kind::Table => b'T',
+            Kind::Start => b'S',
+            Kind::Matrix => b'M',
+            Kind::End => b'E',
+            Kind::Close => b'Z',
+        }
     }
 }
 
@@ -70,4 +86,17 @@ pub fn turn(due: Due, kind: Kind, rows: usize) -> Option<Due>
         (Due::Close, Kind::Close) => Some(Due::Nothing),
         _ => None,
     }
+}
+
+/// Writes a line: its first byte, the values in their columns, and byte 10.
+pub fn put_line<I: Iterator<Item = u64> + Drop>(out: &mut [u8], first: u8, values: I)
+    requires can { I.can_next values }
+    requires ends { IsFinite (I.remaining values) }
+    requires fill { (vs : List ℕ) × Gives I.next_gives values vs × TenDigits vs × (length out.old ≡ 2 + 11 * length vs) }
+    ensures written { (vs : List ℕ) → Gives I.next_gives values vs → out.new ≡ line_of first vs }
+{
+    let end = out.len() - 1;
+    out[0] = first;
+    put_numbers(&mut out[1..end], values);
+    out[end] = b'\n';
 }

@@ -1,10 +1,16 @@
 -- What a step of the reader goes over, and where it stops. Assumes nothing.
-use Rattle.std.proofs.Common.{◌≡◌, ℕ, ◌+◌, ◌-◌, ◌<◌, ◌≤◌, List, [], ◌∷◌, ◌++◌, length, get_or, take, drop, sym, refl, ap, ◌∙◌, subst, inl, inr, add-zero, arith}
-use Rattle.std.proofs.lemmas.List.{drop_more, length-drop, get_or-drop, take_all, length-take, take-take, take-append-drop, drop-drop}
+use Rattle.std.proofs.Common.{◌≡◌, ℕ, ◌+◌, ◌<◌, ◌≤◌, List, [], ◌∷◌, ◌++◌, length, get_or, take, drop, sym, refl, ap, ◌∙◌, subst, inl, inr, add-zero, arith}
+use Rattle.std.specs.declared.option.Option.{Option}
+use Rattle.std.specs.declared.option.Option.TheVariants.{Some, None}
+use Rattle.std.specs.declared.result.Result.{Result}
+use Rattle.std.specs.declared.result.Result.TheVariants.{Ok, Err}
+use Rattle.std.specs.Option.{ok_or, MatchOption}
+use Rattle.std.specs.Result.{result_or, MatchResult, IsErrAnd}
+use Rattle.std.proofs.lemmas.Result.{err_from_is_err_and}
+use Rattle.std.proofs.lemmas.List.{take_all, length-take, take-take, take-append-drop}
 use Rattle.columns.specs.Numbers.{number, Begins, Broken, Holds}
 use Rattle.columns.specs.Lines.{letter, due_letter}
 use Rattle.reader.specs.Items.{Item, first, ranged, close, width, Opens, along, named, Halts}
-use Rattle.reader.specs.Steps.{Went}
 use Rattle.faults.specs.declared.Position.{Position}
 use Rattle.columns.specs.declared.line.Kind.{Kind}
 use Rattle.columns.specs.declared.line.Kind.TheVariants as kind
@@ -12,7 +18,24 @@ use Rattle.columns.specs.declared.line.Due.{Due}
 use Rattle.columns.specs.declared.line.Due.TheVariants.{Table, Start, Matrix, End, Close, Nothing}
 use Rattle.faults.specs.declared.ColumnFault.{ColumnFault}
 use Rattle.faults.specs.declared.LineFault.TheVariants.{Column, Ends, Unexpected, Unended}
-use Rattle.reader.specs.declared.Reader.{Reader}
+
+-- what holds where a `?` returns
+pub exits : {T E : Type 0} (r : Result T E) (e : E) (P : T → Type 0) (Q : E → Type 0) → IsErrAnd r (λ y. y ≡ e) → Q e → MatchResult r P Q
+exits r e P Q gives q = let p = err_from_is_err_and r gives in rw (p.1, p.2) q
+
+-- what an `Option` was that gave an error for `None`
+pub ok_or_err : {A E : Type 0} (o : Option A) (P : Type 0) (Q : A → Type 0) {f : E} (e : E) → Err f ≡ ok_or o e → MatchOption o P Q → (f ≡ e) × P
+ok_or_err (Some x) P Q e h m = cc
+ok_or_err None P Q e h m = (cc, m)
+
+-- what a `Result` was whose error another took the place of
+pub or_err : {A D E : Type 0} (r : Result A D) (P : A → Type 0) (Q : Type 0) {f : E} (e : E) → Err f ≡ result_or r (Err e) → MatchResult r P (λ _. Q) → (f ≡ e) × Q
+or_err (Ok x) P Q e h m = cc
+or_err (Err d) P Q e h m = (cc, m)
+
+pub or_ok : {A D E : Type 0} (r : Result A D) (P : A → Type 0) (Q : Type 0) {x : A} (e : E) → Ok x ≡ result_or r (Err e) → MatchResult r P (λ _. Q) → P x
+or_ok (Ok y) P Q {x} e h m = let same : y ≡ x = cc in subst P same m
+or_ok (Err d) P Q e h m = cc
 
 pub standing : (p : Position) (n : ℕ) → n ≡ 0 → p ≡ along p n
 standing p n e = λ i. record { line = p.line; column = (sym (add-zero p.column) ∙ ap (λ m. p.column + m) (sym e)) i }
@@ -40,18 +63,17 @@ first_of : (b : ℕ) (rest : List ℕ) → 0 < length rest → take (length (tak
 first_of b [] some e = absurd (omega arith)
 first_of b (x ∷ xs) some e = sym (ap (λ l. get_or l 0 0) e)
 
-module _ (text : List ℕ) (at : ℕ) (p : Position) (more : at < length text) where
-  some_left : 0 < length (drop at text)
-  some_left = simp length-drop (omega arith)
+module _ (p : Position) (x : ℕ) (bs rest : List ℕ) (is : rest ≡ x ∷ bs) where
+  other_first : (item : Item) (b : ℕ) → (Opens item (take 1 rest) → take (length (take 1 rest)) (b ∷ []) ≡ take 1 rest) → (x ≡ b → ⊥) → Halts item p rest (named item p)
+  other_first item b opens other =
+      let some : 0 < length rest = omega (arith, ap length is) in
+      breaks_first item p rest some (λ o. other (sym (ap (λ l. get_or l 0 0) is) ∙ first_of b rest some (opens o)))
 
-  first_left : get_or (drop at text) 0 0 ≡ get_or text at 0
-  first_left = get_or-drop at text 0 0 ∙ ap (λ i. get_or text i 0) (add-zero at)
+  pub no_head : (b : ℕ) → (x ≡ b → ⊥) → Halts (first b) p rest (Unexpected p)
+  no_head b = other_first (first b) b (λ o. o)
 
-  pub no_head : (b : ℕ) → (get_or text at 0 ≡ b → ⊥) → Halts (first b) p (drop at text) (Unexpected p)
-  no_head b other = breaks_first (first b) p (drop at text) some_left (λ o. other (sym first_left ∙ first_of b (drop at text) some_left o))
-
-  pub no_close : (get_or text at 0 ≡ 10 → ⊥) → Halts close p (drop at text) (Unended p)
-  no_close other = breaks_first close p (drop at text) some_left (λ o. other (sym first_left ∙ first_of 10 (drop at text) some_left o))
+  pub no_close : (x ≡ 10 → ⊥) → Halts close p rest (Unended p)
+  no_close = other_first close 10 (λ o. o)
 
 -- a byte that begins no kind of line begins none that is due
 pub no_kind : (b : ℕ) → b < 256 → ((k : Kind) → letter k ≡ b → ⊥) → (due : Due) → b ≡ due_letter due → ⊥
@@ -62,47 +84,31 @@ no_kind b small none End e = none kind.End (sym e)
 no_kind b small none Close e = none kind.Close (sym e)
 no_kind b small none Nothing e = omega arith
 
--- over one byte
-pub went_one : (r s : Reader) (b : ℕ) (p : Position) → s.text.now ≡ r.text.now → s.at ≡ r.at + 1 → r.at < length r.text.now → get_or r.text.now r.at 0 ≡ b → s.position ≡ p → Went r s (b ∷ []) p
-went_one r s b p same at more byte stands = record {
-  same = same;
-  within = omega (arith, ap length same);
-  over = drop_more r.text.now r.at 0 more ∙ (λ i. byte i ∷ drop (sym at i) (sym same i));
-  position = stands;
-}
+-- the first m bytes that are left
+module _ (rest : List ℕ) (m : ℕ) (p : Position) (low high : ℕ) (fits : m ≤ length rest) where
+  part_long : length (take m rest) ≡ m
+  part_long = simp length-take (omega arith)
 
--- the m bytes at `at`, as a slice of them is read
-module _ (text : List ℕ) (at m : ℕ) (p : Position) (low high : ℕ) (fits : at + m ≤ length text) where
-  part_is : take (at + m - at) (drop at text) ≡ take m (drop at text)
-  part_is = ap (λ n. take n (drop at text)) (omega arith)
-
-  part_long : length (take m (drop at text)) ≡ m
-  part_long = simp (length-take, length-drop) (omega arith)
-
-  pub number_broken : m ≤ 11 → (fault : ColumnFault) → (c : ℕ) × (fault ≡ record { position = along p c }) × Broken (take (at + m - at) (drop at text)) c → Halts (ranged low high) p (drop at text) (Column fault)
-  number_broken most fault (c, is, broken) =
-      let b : Broken (take m (drop at text)) c = subst (λ l. Broken l c) part_is broken in
+  pub number_broken : m ≤ 11 → (fault : ColumnFault) → (c : ℕ) × (fault ≡ record { position = along p c }) × Broken (take m rest) c → Halts (ranged low high) p rest (Column fault)
+  number_broken most fault (c, is, b) =
       let in-part : c < m = omega (arith, b.reached, part_long) in
       inr (
         c,
         record {
           inside = omega arith;
-          reached = simp length-drop (omega arith);
-          before = subst Begins (take-take c m (drop at text) (omega arith)) b.before;
-          here = λ o. b.here (subst Begins (sym (take-take (c + 1) m (drop at text) (omega arith))) o);
+          reached = omega arith;
+          before = subst Begins (take-take c m rest (omega arith)) b.before;
+          here = λ o. b.here (subst Begins (sym (take-take (c + 1) m rest (omega arith))) o);
         },
         ap Column is,
       )
 
-  pub number_ended : (v : ℕ) → m < 11 → at + m ≡ length text → Holds (take (at + m - at) (drop at text)) v → Halts (ranged low high) p (drop at text) (Ends (along p m))
+  pub number_ended : (v : ℕ) → m < 11 → m ≡ length rest → Holds (take m rest) v → Halts (ranged low high) p rest (Ends (along p m))
   number_ended v short end holds =
-      let long : length (drop at text) ≡ m = simp length-drop (omega arith) in
       inl (
-        record { short = omega arith; opens = subst Begins (part_is ∙ take_all m (drop at text) (omega arith)) holds.begins },
-        ap (λ n. Ends (along p n)) (sym long),
+        record { short = omega arith; opens = subst Begins (take_all m rest (omega arith)) holds.begins },
+        ap (λ n. Ends (along p n)) end,
       )
 
-  pub number_over : (v : ℕ) → m ≡ 11 → Holds (take (at + m - at) (drop at text)) v → drop at text ≡ number v ++ drop (at + 11) text
-  number_over v e holds =
-      let whole : take m (drop at text) ≡ number v = sym part_is ∙ holds.whole (ap length part_is ∙ part_long ∙ e) in
-      sym (take-append-drop m (drop at text)) ∙ (λ i. whole i ++ (drop-drop m at text ∙ ap (λ n. drop (at + n) text) e) i)
+  pub number_over : (v : ℕ) → m ≡ 11 → Holds (take m rest) v → rest ≡ number v ++ drop m rest
+  number_over v e holds = sym (take-append-drop m rest) ∙ ap (λ l. l ++ drop m rest) (holds.whole (part_long ∙ e))

@@ -19,13 +19,11 @@ abbrev pub after_all : List Item → Position → Position
 after_all [] p = p
 after_all (i ∷ is) p = after_all is (after i p)
 
-pub went_none : (r : Reader) (p : Position) → r.at ≤ length r.text.now → r.position ≡ p → Went r r [] p
-went_none r p h e = record { same = refl; within = h; over = refl; position = e }
+pub went_none : (r : Reader) (p : Position) → r.position ≡ p → Went r r [] p
+went_none r p e = record { over = refl; position = e }
 
 pub went_more : (r s t : Reader) (a b : List ℕ) (p q : Position) → Went r s a p → Went s t b q → Went r t (a ++ b) q
 went_more r s t a b p q f g = record {
-  same = g.same ∙ f.same;
-  within = g.within;
   over = f.over ∙ ap (λ l. a ++ l) g.over ∙ sym (append_assoc a b (left t));
   position = g.position;
 }
@@ -42,8 +40,8 @@ pub record Rowed (r s : Reader) (codes : List ℕ) (i high : ℕ) : Type 0 where
   pub went : Went r s (numbers (take i codes)) (along r.position (11 * i))
   pub below : All (λ v. v ≤ high) (take i codes)
 
-pub rowed_none : (r : Reader) (codes : List ℕ) (high : ℕ) → r.at ≤ length r.text.now → Rowed r r codes 0 high
-rowed_none r codes high h = record { went = went_none r _ h (standing r.position 0 refl); below = tt }
+pub rowed_none : (r : Reader) (codes : List ℕ) (high : ℕ) → Rowed r r codes 0 high
+rowed_none r codes high = record { went = went_none r _ (standing r.position 0 refl); below = tt }
 
 pub rowed_more : (r s t : Reader) (codes : List ℕ) (i high v : ℕ) → i < length codes → Rowed r s codes i high → v ≤ high → Went s t (number v) (along s.position 11) → Rowed r t (set codes i v) (i + 1) high
 rowed_more r s t codes i high v on rowed h w =

@@ -9,15 +9,15 @@ ghost use Rattle.reader.specs.Steps.{left, Starts, Able, Went};
 ghost use Rattle.faults.specs.declared.LoadFault.TheVariants.{Beyond};
 
 use columns::column::columns;
-use columns::line::{Due, kind_of, turn};
+use columns::line::{Due, Kind, turn};
 use faults::{LineFault, LoadFault, Position};
 use field::Field;
 
-/// What stands at `at` in the text is due next; `position` is its line and column.
+/// What is left of a text; `position` is the line and column of its first byte, which is due next.
+// `Able` is no ghost field: a reader of any text can be made, and a long enough text takes its counts past any limit.
 #[derive(Drop)]
 pub struct Reader<'a> {
-    text: &'a [u8],
-    at: usize,
+    rest: &'a [u8],
     position: Position,
 }
 
@@ -27,8 +27,7 @@ impl<'a> Reader<'a> {
         ensures at_the_start { Starts result text.now }
     {
         Reader {
-            text,
-            at: 0,
+            rest: text,
             position: Position { line: 1, column: 1 },
         }
     }
@@ -37,9 +36,9 @@ impl<'a> Reader<'a> {
 impl Reader<'_> {
     /// Asks that the text ends here.
     pub fn finish(&self) -> Result<(), LoadFault>
-        ensures over_or_beyond { MatchResult result (λ _. length self.now.text.now ≤ self.now.at) (λ f. (self.now.at < length self.now.text.now) × (f ≡ Beyond self.now.position)) }
+        ensures over_or_beyond { MatchResult result (λ _. left self.now ≡ []) (λ f. (0 < length (left self.now)) × (f ≡ Beyond self.now.position)) }
     {
-        if self.at < self.text.len() {
+        if !self.rest.is_empty() {
             return Err(LoadFault::Beyond(self.position));
         }
         Ok(())
@@ -50,16 +49,14 @@ impl Reader<'_> {
         requires able { Able self.old }
         ensures due_or_halted { MatchResult result (λ then. Went self.old self.new (due_letter due ∷ []) (along self.old.position 1) × (then ≡ next rows due)) (λ f. Halts (first (due_letter due)) self.old.position (left self.old) f) }
     {
-        if self.at == self.text.len() {
-            return Err(LineFault::Ends(self.position));
-        }
-        let Some(kind) = kind_of(char::from(self.text[self.at])) else {
-            return Err(LineFault::Unexpected(self.position));
-        };
-        let Some(then) = turn(due, kind, rows) else {
-            return Err(LineFault::Unexpected(self.position));
-        };
-        self.at += 1;
+        let (letter, rest) = self
+            .rest
+            .split_first()
+            .ok_or(LineFault::Ends(self.position))?;
+        let unexpected = LineFault::Unexpected(self.position);
+        let kind = Kind::try_from(char::from(*letter)).or(Err(unexpected))?;
+        let then = turn(due, kind, rows).ok_or(unexpected)?;
+        self.rest = rest;
         self.position.column += 1;
         Ok(then)
     }
@@ -69,18 +66,18 @@ impl Reader<'_> {
         requires able { Able self.old }
         ensures next_line_or_halted { MatchResult result (λ _. Went self.old self.new (10 ∷ []) (after close self.old.position)) (λ f. Halts close self.old.position (left self.old) f) }
     {
-        if self.at == self.text.len() {
-            return Err(LineFault::Ends(self.position)); // a newline is due
+        match self.rest {
+            [] => Err(LineFault::Ends(self.position)), // a newline is due
+            [b'\n', rest @ ..] => {
+                self.rest = rest;
+                self.position = Position {
+                    line: self.position.line + 1,
+                    column: 1,
+                };
+                Ok(())
+            }
+            _ => Err(LineFault::Unended(self.position)),
         }
-        if self.text[self.at] != b'\n' {
-            return Err(LineFault::Unended(self.position));
-        }
-        self.at += 1;
-        self.position = Position {
-            line: self.position.line + 1,
-            column: 1,
-        };
-        Ok(())
     }
 
     /// Goes over a number.
@@ -88,18 +85,18 @@ impl Reader<'_> {
         requires able { Able self.old }
         ensures number_or_halted { MatchResult result (λ v. (v < 10 ^ 10) × Went self.old self.new (number v) (along self.old.position 11)) (λ f. (low high : ℕ) → Halts (ranged low high) self.old.position (left self.old) f) }
     {
-        let left = self.text.len() - self.at;
-        let width = if left < 11 { left } else { 11 };
-        let value = columns(&self.text[self.at..self.at + width], self.position)?;
+        let width = self.rest.len().min(11);
+        let (front, rest) = self.rest.split_at(width);
+        let value = columns(front, self.position)?;
+        let after = Position {
+            column: self.position.column + width as u32,
+            ..self.position
+        };
         if width < 11 {
-            let position = Position {
-                line: self.position.line,
-                column: self.position.column + width as u32,
-            };
-            return Err(LineFault::Ends(position));
+            return Err(LineFault::Ends(after));
         }
-        self.at += 11;
-        self.position.column += 11;
+        self.rest = rest;
+        self.position = after;
         Ok(value)
     }
 
@@ -123,9 +120,6 @@ impl Reader<'_> {
     {
         let first = self.position;
         let code = self.number()?;
-        let Some(x) = F::from_code(code) else {
-            return Err(LoadFault::Value(first));
-        };
-        Ok(x)
+        F::from_code(code).ok_or(LoadFault::Value(first))
     }
 }
