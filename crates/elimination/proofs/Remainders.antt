@@ -1,13 +1,14 @@
 -- Rows in echelon form and what they leave of a row, where rows are said in another way. Assumes nothing.
-use Rattle.std.proofs.Common.{◌≡◌, ℕ, suc, ◌+◌, ◌*◌, ◌<◌, ◌≤◌, ◌≢◌, List, length, sym, refl, ap, ◌∙◌, arith}
+use Rattle.std.proofs.Common.{◌≡◌, ℕ, suc, ◌+◌, ◌*◌, ◌<◌, ◌≤◌, ◌≢◌, List, ◌++◌, length, sym, refl, ap, ◌∙◌, arith}
 use Rattle.std.proofs.lemmas.Nat.{mul-add-lt}
 use Rattle.field.specs.FiniteField.{FiniteField}
 use Rattle.series.specs.EliminationProgress.{Echelon}
 use Rattle.series.specs.Tables.{Agree}
 use Rattle.series.proofs.SpanLaws.{span_same, span_span, span_member}
 use Rattle.series.proofs.Echelons.{echelon_few, echelon_more}
-use Rattle.rows.specs.Memory.{row_at, square_at, Copied}
+use Rattle.rows.specs.Memory.{at, row_at, square_at, Copied}
 use Rattle.rows.proofs.Memory.{frame_below, copied_written}
+use Rattle.rows.proofs.Splits.{at_front}
 use Rattle.elimination.specs.Elimination.{Remainder, NothingLeft, NewRow}
 use Rattle.elimination.proofs.Updates.{updated, updated_here, updated_other}
 
@@ -76,3 +77,7 @@ module _ {V : Type 0} (K : FiniteField V) where
     -- what they leave of the copy they leave of the row
     pub remainder_copied : from + n ≤ length xs → rows + count * n + n ≤ length ys → (p : ℕ → ℕ) (y : ℕ → V) → Remainder K n count (square_at K v ys rows n) p (row_at K v ys (rows + count * n)) y → Remainder K n count (square_at K v xs rows n) p (row_at K v xs from) y
     remainder_copied l h p y = remainder_same n count (square_at K v xs rows n) (square_at K v ys rows n) p (row_at K v xs from) (row_at K v ys (rows + count * n)) y rows_stay (copied_written K v c h l).done
+
+  -- rows that are the first part of a slice
+  pub rows_before : {F : Type 0} (v : F → V) (n count : ℕ) (xs front back : List F) → xs ≡ front ++ back → length front ≡ count * n → (b : ℕ) → b < count → Agree n (square_at K v front 0 n b) (square_at K v xs 0 n b)
+  rows_before v n count xs front back e h b l j g = sym (ap (λ zs. at K v zs (0 + (b * n + j))) e ∙ at_front K v front back (0 + (b * n + j)) (omega (arith, mul-add-lt b n j count l g)))

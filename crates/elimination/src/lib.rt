@@ -1,6 +1,8 @@
 //! Rows in echelon form: each has one at its pivot, and every later row has zero there.
 #![tactic(auto)]
 
+pub mod echelon;
+
 ghost use Rattle.std.specs.Prelude.{◌≡◌, ℕ, ◌+◌, ◌*◌, ◌<◌, ◌≤◌, length, MatchOption, slice_index};
 ghost use Rattle.series.specs.EliminationProgress.{Echelon};
 ghost use Rattle.rows.specs.Memory.{row_at, square_at, Frame, Apart};
