@@ -1,14 +1,13 @@
 -- What clear does with the entries is what the call does, with any memory. Assumes nothing.
-use Rattle.std.proofs.Common.{◌≡◌, ℕ, List, map, Ok, Err, Result, sym, refl, ap, subst, subst₂, inl, inr, arith}
+use Rattle.std.proofs.Common.{◌≡◌, ℕ, List, map, Ok, Err, Result, sym, refl, ap, subst, inl, inr, arith}
 use Rattle.field.specs.FiniteField.{FiniteField}
 use Rattle.book.specs.Shelves.{State, Place, entry, empty}
-use Rattle.book.specs.Calls.{Call, clear, Names}
+use Rattle.book.specs.Calls.{clear, Names}
 use Rattle.book.specs.Refusing.{outside, vacant, Refuses}
 use Rattle.book.specs.Doing.{Does}
 use Rattle.book.specs.declared.refusal.Refusal.{Refusal}
 use Rattle.book.specs.declared.refusal.Refusal.TheVariants.{PlaceOutside, PlaceEmpty}
 use Rattle.book.specs.declared.outcome.Answer.TheVariants.{Done}
-use Rattle.book.specs.Outcomes.{Outcome}
 use Rattle.book.proofs.Checks.{Passed, passed_0, passed_1, passed_2, passed_3, passed_4, refused_at}
 use Rattle.shelf.specs.Views.{entry_of, state, outcome_by}
 use Rattle.shelf.specs.Clearing.{Clears}
@@ -36,7 +35,3 @@ clear_does K v es es' mem w out verdict p (Err f) (inr (e, l, h), left) = (
   subst (Refuses K (state es mem w out verdict) (clear p)) (sym e) (refused_at K (state es mem w out verdict) (clear p) 3 PlaceEmpty (past_3 K (state es mem w out verdict) p l) (vacant p (inl refl) h) (omega arith)),
   ap (λ xs. record { shelf = record { entries = xs; memory = mem }; lent = record { work = w; output = out; verdict = verdict } }) left,
 )
-
--- what a call did, told by another name of the call and of its outcome
-pub told_as : {V : Type 0} (K : FiniteField V) {F : Type 0} (v : F → V) (s t : State F) (a b : Call) (o q : Outcome) → b ≡ a → q ≡ o → Does K v s a o t → Does K v s b q t
-told_as K v s t a b o q e f d = subst₂ (λ c r. Does K v s c r t) (sym e) (sym f) d

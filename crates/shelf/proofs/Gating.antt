@@ -1,6 +1,7 @@
 -- The checks 1 to 4 of any call. Assumes nothing.
-use Rattle.std.proofs.Common.{◌≡◌, ℕ, ◌<◌, ◌≤◌, ◌≢◌, ◌⊎◌, List, [], ◌∷◌, length, IfOk, Ok, Err, Result, sym, refl, ◌∙◌, subst, inl, inr, arith, MatchResult}
-use Rattle.rows.specs.declared.layout.TableAt.{TableAt}
+use Rattle.std.proofs.Common.{◌≡◌, ℕ, ◌<◌, ◌≤◌, ◌≢◌, ◌⊎◌, List, [], ◌∷◌, length, Result, sym, ◌∙◌, subst, inl, inr, arith}
+use Rattle.std.specs.Result.{IsErrAnd}
+use Rattle.std.proofs.lemmas.Result.{err_from_is_err_and}
 use Rattle.field.specs.FiniteField.{FiniteField}
 use Rattle.book.specs.Shelves.{Entry, empty, filled, State, Place, entry}
 use Rattle.book.specs.Calls.{Call, Among, Names, sources, results}
@@ -8,7 +9,7 @@ use Rattle.book.specs.Refusing.{asks, outside, short_memory, short_work, vacant,
 use Rattle.book.specs.declared.refusal.Refusal.{Refusal}
 use Rattle.book.specs.declared.refusal.Refusal.TheVariants.{PlaceOutside, MemoryShort, WorkShort, PlaceEmpty}
 use Rattle.book.proofs.Checks.{Passed, passed_0, passed_1, passed_2, passed_3, passed_4, refused_at}
-use Rattle.shelf.specs.Checking.{Reads, Checked, Found}
+use Rattle.shelf.specs.Checking.{Reads, Checked}
 
 -- what holds of each of one or two places
 pub of_one : (P : ℕ → Type 0) {p : ℕ} → P p → (q : ℕ) → Among (p ∷ []) q → P q
@@ -76,25 +77,11 @@ module _ {V : Type 0} (K : FiniteField V) {F : Type 0} (s : State F) (c : Call) 
         past_4 h = passed_4 K s c past_3 (λ q m. h q (subst (λ xs. Among xs q) reads.sources_are m))
 
 -- what a check refuses, the call returns by `?`
-pub broken : {V : Type 0} (K : FiniteField V) {F : Type 0} (s : State F) (c : Call) (n : ℕ) {T : Type 0} {r : Result T Refusal} {e : Refusal} → (y : Refusal) × (r ≡ Err y) × (y ≡ e) → Refuses K s c e → Checked K s c n r
-broken K s c n (y, p, q) h = subst (Checked K s c n) (sym p) (subst (Refuses K s c) (sym q) h)
-
-pub unfound : {T E : Type 0} (P : T → Type 0) (r : Result T E) {y : E} → r ≡ Err y → IfOk r P
-unfound P r e = subst (λ z. IfOk z P) (sym e) tt
-
--- a fact more of what is found
-pub found_with : {T E : Type 0} {B : Type 0} (P : T → Type 0) (Q : E → Type 0) (r : Result T E) → B → MatchResult r P Q → IfOk r (λ t. P t × B)
-found_with P Q (Ok t) b h = (h, b)
-found_with P Q (Err f) b h = tt
+pub broken : {V : Type 0} (K : FiniteField V) {F : Type 0} (s : State F) (c : Call) (n : ℕ) {T : Type 0} (r : Result T Refusal) {e : Refusal} → IsErrAnd r (λ y. y ≡ e) → Refuses K s c e → Checked K s c n r
+broken K s c n r h d = let p = err_from_is_err_and r h in subst (Checked K s c n) (sym p.1) (subst (Refuses K s c) (sym p.2) d)
 
 module _ {V : Type 0} (K : FiniteField V) {F : Type 0} (s : State F) (c : Call) (ps qs : List ℕ) (need : ℕ) (reads : Reads c ps qs need) (first : (q : ℕ) → Among ps q → Place q) (others : (q : ℕ) → Among qs q → Place q) where
   -- shelf memory or work memory is short
   pub short : (f : Refusal) → ((f ≡ MemoryShort) × (length s.shelf.memory < 12544)) ⊎ ((f ≡ WorkShort) × (12544 ≤ length s.shelf.memory) × (s.lent.work < need)) → Refuses K s c f
   short f (inl (e, l)) = subst (Refuses K s c) (sym e) (no_memory K s c ps qs need reads first others l)
   short f (inr (e, m, l)) = subst (Refuses K s c) (sym e) (no_work K s c ps qs need reads first others m l)
-
--- the last of the checks, of the one table that the call reads
-pub table_checked : {V : Type 0} (K : FiniteField V) {F : Type 0} (s : State F) (c : Call) (p : ℕ) (qs : List ℕ) (need : ℕ) (reads : Reads c (p ∷ []) qs need) → ((q : ℕ) → Among (p ∷ []) q → Place q) → ((q : ℕ) → Among qs q → Place q)
-    → 12544 ≤ length s.shelf.memory → need ≤ s.lent.work → (r : Result TableAt Refusal) → MatchResult r (λ t. Found s.shelf.entries (length s.shelf.memory) p t) (λ f. (f ≡ PlaceEmpty) × (entry s.shelf p ≡ empty)) → Checked K s c 4 r
-table_checked K s c p qs need reads first others m w (Ok t) h = past_4 K s c (p ∷ []) qs need reads first others m w (of_one (λ q. entry s.shelf q ≢ empty) (not_empty (entry s.shelf p) t.states t.letters h.told))
-table_checked K s c p qs need reads first others m w (Err f) h = unfilled K s c (p ∷ []) qs need reads first others m w p (inl refl) f h

@@ -1,5 +1,7 @@
 -- A table that is built in work memory and copied to its place. Assumes nothing.
-use Rattle.std.proofs.Common.{◌≡◌, ℕ, List, map, length, Err, Result, sym, refl, ap, ◌∙◌, subst, subst₂}
+use Rattle.std.proofs.Common.{◌≡◌, ℕ, List, map, length, Result, sym, refl, ap, ◌∙◌, subst, subst₂}
+use Rattle.std.specs.Result.{IsErrAnd}
+use Rattle.std.proofs.lemmas.Result.{err_from_is_err_and}
 use Rattle.field.specs.FiniteField.{FiniteField}
 use Rattle.series.specs.Tables.{Table, SameTable}
 use Rattle.rows.specs.Layout.{table_at}
@@ -26,12 +28,13 @@ module _ {V : Type 0} (K : FiniteField V) {F : Type 0} (v : F → V) where
   table_found es mem len p t f = ap (λ b. table_at K v mem b t.states t.letters) f.begins_there ∙ ap (λ e. table_at K v mem (begins p) (states_of e) (letters_of e)) (sym f.told)
 
   -- built in work memory, copied, and told in the entry: made
-  pub made : (es es' : List EntryCode) (mem mem' work work' : List F) (to n k : ℕ) (R R' : Table V) → SameTable (table_at K v work' 0 n k) R → R ≡ R'
-      → ((l : Lent) (T : Table V) → SameTable (table_at K v work' 0 n k) T → Makes K v (lending (shelf_of es mem) l) to T (lending (shelf_of es' mem') l))
+  pub made : (es es' : List EntryCode) (mem mem' work work' : List F) (to n k : ℕ) (R R' : Table V) → SameTable (table_at K v work' 0 n k) R → R ≡ R' → {at : ℕ} → at ≡ to
+      → ((l : Lent) (T : Table V) → SameTable (table_at K v work' 0 n k) T → Makes K v (lending (shelf_of es mem) l) at T (lending (shelf_of es' mem') l))
       → length work' ≡ length work → (out : List ℕ) (verdict : Verdict) → Makes K v (state es mem (length work) out verdict) to R' (state es' mem' (length work') out verdict)
-  made es es' mem mem' work work' to n k R R' same e kept l out verdict =
-      subst₂ (λ w T. Makes K v (state es mem (length work) out verdict) to T (state es' mem' w out verdict)) (sym l) e (kept (record { work = length work; output = out; verdict = verdict }) R same)
+  made es es' mem mem' work work' to n k R R' same e there kept l out verdict =
+      subst₂ (λ w T. Makes K v (state es mem (length work) out verdict) to T (state es' mem' w out verdict)) (sym l) e
+      (let lent : Lent = record { work = length work; output = out; verdict = verdict } in subst (λ p. Makes K v (lending (shelf_of es mem) lent) p R (lending (shelf_of es' mem') lent)) there (kept lent R same))
 
   -- a refusal that came through `?`
-  pub refused : (s : State F) (c : Call) {T : Type 0} (tells : T → Answer) {r : Result T Refusal} {e : Refusal} → (y : Refusal) × (r ≡ Err y) × (y ≡ e) → Refuses K s c e → Does K v s c (outcome_by tells r) s
-  refused s c tells (y, p, q) h = subst (λ z. Does K v s c (outcome_by tells z) s) (sym p) (subst (Refuses K s c) (sym q) h, refl)
+  pub refused : (s t : State F) (c : Call) {T : Type 0} (tells : T → Answer) (r : Result T Refusal) {e : Refusal} → IsErrAnd r (λ y. y ≡ e) → Refuses K s c e → t ≡ s → Does K v s c (outcome_by tells r) t
+  refused s t c tells r h d same = let p = err_from_is_err_and r h in subst (λ z. Does K v s c (outcome_by tells z) t) (sym p.1) (subst (Refuses K s c) (sym p.2) d, same)

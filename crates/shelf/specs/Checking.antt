@@ -3,7 +3,7 @@ use Rattle.std.specs.Prelude.{◌≡◌, ℕ, ◌<◌, ◌≤◌, List, Result, 
 use Rattle.field.specs.FiniteField.{FiniteField}
 use Rattle.rows.specs.Tables.{Lies}
 use Rattle.rows.specs.declared.layout.TableAt.{TableAt}
-use Rattle.book.specs.Shelves.{Entry, empty, filled, State, Place, at_place, begins}
+use Rattle.book.specs.Shelves.{Entry, empty, filled, State, at_place, begins}
 use Rattle.book.specs.Calls.{Call, sum, multiply, compare, Among, Names, sources, results}
 use Rattle.book.specs.Refusals.{refusal_number}
 use Rattle.book.specs.Refusing.{asks, Meets, Refuses}
@@ -33,15 +33,13 @@ pub record Found (entries : List Entry) (len p : ℕ) (t : TableAt) : Type 0 whe
   pub begins_there : t.base ≡ begins p
   pub lies : Lies len t
 
--- room to make a table at a place
-pub record Room (len work to : ℕ) : Type 0 where
-  pub place : Place to
+-- room to make a table
+pub record Room (len work : ℕ) : Type 0 where
   pub memory : 12544 ≤ len
   pub working : 8192 ≤ work
 
--- two tables of one letter count, and room to make a table
-pub record FoundBoth (entries : List Entry) (len work p q to : ℕ) (both : TwoTables) : Type 0 where
+-- two tables of one letter count
+pub record FoundBoth (entries : List Entry) (len p q : ℕ) (both : TwoTables) : Type 0 where
   pub left : Found entries len p both.left
   pub right : Found entries len q both.right
   pub same_letters : both.left.letters ≡ both.right.letters
-  pub room : Room len work to

@@ -1,14 +1,15 @@
 //! The checks that the calls on a shelf have in common, made in the order of their refusals.
 ghost use Rattle.std.specs.Prelude.{◌≡◌, ℕ, ◌<◌, ◌≤◌, ◌⊎◌, List, [], ◌∷◌, map, length, IfOk, MatchResult};
-ghost use Rattle.book.specs.Shelves.{Place, at_place, empty};
+ghost use Rattle.book.specs.Shelves.{at_place, empty};
 ghost use Rattle.book.specs.Calls.{Call};
-ghost use Rattle.book.specs.declared.refusal.Refusal.TheVariants.{PlaceOutside, MemoryShort, WorkShort, PlaceEmpty};
+ghost use Rattle.book.specs.declared.refusal.Refusal.TheVariants.{MemoryShort, WorkShort, PlaceEmpty};
 ghost use Rattle.book.specs.declared.verdict.Verdict.{Verdict};
 ghost use Rattle.shelf.specs.Views.{entry_of, state};
 ghost use Rattle.shelf.specs.Checking.{Reads, Pairs, Checked, Found, FoundBoth, Room};
 
 use crate::directory::Directory;
 use crate::pair::TwoTables;
+use crate::place::Place;
 use book::refusal::Refusal;
 use field::Field;
 use rows::layout::TableAt;
@@ -18,16 +19,6 @@ pub const SHELF: usize = 12544;
 
 /// How many elements of work memory a call asks for.
 pub const WORK: usize = 8192;
-
-/// Whether a place is one of 1 to 8.
-pub fn within(place: usize) -> Result<(), Refusal>
-    ensures place_or_refused { MatchResult result (λ _. Place place) (λ f. (f ≡ PlaceOutside) × (Place place → ⊥)) }
-{
-    if place < 1 || place > 8 {
-        return Err(Refusal::PlaceOutside);
-    }
-    Ok(())
-}
 
 /// Whether shelf memory and work memory have the elements that a call asks for.
 pub fn room(shelf: usize, work: usize) -> Result<(), Refusal>
@@ -44,39 +35,40 @@ pub fn room(shelf: usize, work: usize) -> Result<(), Refusal>
 
 impl Directory {
     /// Where the table at a place lies in shelf memory.
-    pub(crate) fn table(&self, shelf: usize, place: usize) -> Result<TableAt, Refusal>
-        requires place_within { Place place }
+    pub(crate) fn table(&self, shelf: usize, place: Place) -> Result<TableAt, Refusal>
         requires shelf_whole { 12544 ≤ shelf }
-        ensures found_or_refused { MatchResult result (λ t. Found (map entry_of self.now.entries) shelf place t) (λ f. (f ≡ PlaceEmpty) × (at_place empty (map entry_of self.now.entries) place ≡ empty)) }
+        ensures found_or_refused { MatchResult result (λ t. Found (map entry_of self.now.entries) shelf place.number t) (λ f. (f ≡ PlaceEmpty) × (at_place empty (map entry_of self.now.entries) place.number ≡ empty)) }
     {
         match self.size_at(place) {
             None => Err(Refusal::PlaceEmpty),
             Some(size) => Ok(TableAt {
-                base: (place - 1) * 1568,
+                base: place.begins(),
                 states: size.states(),
                 letters: size.letters(),
             }),
         }
     }
 
-    /// The checks of a call that reads one table and names one place more.
+    /// The checks of a call that reads one table and names one place more, which is told with the table.
     pub(crate) fn one_table<F: Field>(
         &self,
         shelf: &[F],
         work: &[F],
         place: usize,
         to: usize,
-    ) -> Result<TableAt, Refusal>
+    ) -> Result<(TableAt, Place), Refusal>
         ensures checked { (c : Call) (out : List ℕ) (v : Verdict) → Reads c (place ∷ []) (to ∷ []) 8192 → Checked F.field (state self.now.entries shelf.now (length work.now) out v) c 4 result }
-        ensures found { IfOk result (λ t. Found (map entry_of self.now.entries) (length shelf.now) place t × Room (length shelf.now) (length work.now) to) }
+        ensures found { IfOk result (λ r. Found (map entry_of self.now.entries) (length shelf.now) place r.0 × (r.1.number ≡ to) × Room (length shelf.now) (length work.now)) }
     {
-        within(place)?;
-        within(to)?;
+        let place = Place::try_from(place)?;
+        let to = Place::try_from(to)?;
         room(shelf.len(), work.len())?;
-        self.table(shelf.len(), place)
+        let table = self.table(shelf.len(), place)?;
+        Ok((table, to))
     }
 
-    /// The checks of a call that reads two tables, which have to have one letter count, and names one place more.
+    /// The checks of a call that reads two tables, which have to have one letter count, and names one place more,
+    /// which is told with the tables.
     pub(crate) fn two_tables<F: Field>(
         &self,
         shelf: &[F],
@@ -84,19 +76,19 @@ impl Directory {
         first: usize,
         second: usize,
         to: usize,
-    ) -> Result<TwoTables, Refusal>
+    ) -> Result<(TwoTables, Place), Refusal>
         ensures checked { (c : Call) (out : List ℕ) (v : Verdict) → Pairs c first second to → Checked F.field (state self.now.entries shelf.now (length work.now) out v) c 5 result }
-        ensures found { IfOk result (λ t. FoundBoth (map entry_of self.now.entries) (length shelf.now) (length work.now) first second to t) }
+        ensures found { IfOk result (λ r. FoundBoth (map entry_of self.now.entries) (length shelf.now) first second r.0 × (r.1.number ≡ to) × Room (length shelf.now) (length work.now)) }
     {
-        within(first)?;
-        within(second)?;
-        within(to)?;
+        let first = Place::try_from(first)?;
+        let second = Place::try_from(second)?;
+        let to = Place::try_from(to)?;
         room(shelf.len(), work.len())?;
         let left = self.table(shelf.len(), first)?;
         let right = self.table(shelf.len(), second)?;
         if left.letters != right.letters {
             return Err(Refusal::LettersDiffer);
         }
-        Ok(TwoTables { left, right })
+        Ok((TwoTables { left, right }, to))
     }
 }

@@ -3,9 +3,9 @@ ghost use Rattle.std.specs.Prelude.{map};
 ghost use Rattle.shelf.specs.Views.{entry_of};
 ghost use Rattle.shelf.specs.Clearing.{Clears};
 
-use crate::checks::within;
 use crate::directory::Directory;
 use crate::entry::Entry;
+use crate::place::Place;
 use book::refusal::Refusal;
 
 impl Directory {
@@ -13,7 +13,7 @@ impl Directory {
     pub fn clear(&mut self, place: usize) -> Result<(), Refusal>
         ensures clears { Clears (map entry_of self.old.entries) place result (map entry_of self.new.entries) }
     {
-        within(place)?;
+        let place = Place::try_from(place)?;
         match self.size_at(place) {
             None => Err(Refusal::PlaceEmpty),
             Some(_) => {

@@ -9,6 +9,7 @@ pub mod entry;
 mod making;
 mod pair;
 mod performing;
+mod place;
 mod reading;
 pub mod size;
 pub mod theorems;

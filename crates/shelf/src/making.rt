@@ -13,9 +13,10 @@ ghost use Rattle.book.specs.declared.outcome.Answer.TheVariants.{Done};
 ghost use Rattle.shelf.specs.Views.{shelf_of, state, outcome_by};
 ghost use Rattle.shelf.specs.Checking.{Room};
 
-use crate::checks::{room, within};
+use crate::checks::room;
 use crate::directory::Directory;
 use crate::entry::Entry;
+use crate::place::Place;
 use crate::size::Size;
 use book::refusal::Refusal;
 use field::Field;
@@ -29,15 +30,15 @@ impl Directory {
         &mut self,
         shelf: &mut [F],
         work: &[F],
-        to: usize,
+        to: Place,
         states: usize,
         letters: usize,
     )
-        requires room { Room (length shelf.old) (length work.now) to }
+        requires room { Room (length shelf.old) (length work.now) }
         requires limits { Limits states letters }
-        ensures kept { (l : Lent) (R : Table F.Value) → SameTable (table_at F.field F.value work.now 0 states letters) R → Makes F.field F.value (lending (shelf_of self.old.entries shelf.old) l) to R (lending (shelf_of self.new.entries shelf.new) l) }
+        ensures kept { (l : Lent) (R : Table F.Value) → SameTable (table_at F.field F.value work.now 0 states letters) R → Makes F.field F.value (lending (shelf_of self.old.entries shelf.old) l) to.number R (lending (shelf_of self.new.entries shelf.new) l) }
     {
-        let base = (to - 1) * 1568;
+        let base = to.begins();
         adjusting::copy_table(
             work,
             0,
@@ -61,7 +62,7 @@ impl Directory {
     ) -> Result<(), Refusal>
         ensures does { (out : List ℕ) (v : Verdict) → Does F.field F.value (state self.old.entries shelf.old (length work.old) out v) (turn place to) (outcome_by (λ _. Done) result) (state self.new.entries shelf.new (length work.new) out v) }
     {
-        let table = self.one_table(shelf, work, place, to)?;
+        let (table, to) = self.one_table(shelf, work, place, to)?;
         turning::turn(shelf, table, work, 0);
         self.keep(shelf, work, to, table.states, table.letters);
         Ok(())
@@ -77,7 +78,7 @@ impl Directory {
     ) -> Result<(), Refusal>
         ensures does { (out : List ℕ) (v : Verdict) → Does F.field F.value (state self.old.entries shelf.old (length work.old) out v) (reduce place to) (outcome_by (λ _. Done) result) (state self.new.entries shelf.new (length work.new) out v) }
     {
-        let table = self.one_table(shelf, work, place, to)?;
+        let (table, to) = self.one_table(shelf, work, place, to)?;
         let states = reduction::reduce(work, shelf, table);
         self.keep(shelf, work, to, states, table.letters);
         Ok(())
@@ -94,7 +95,7 @@ impl Directory {
     ) -> Result<(), Refusal>
         ensures does { (out : List ℕ) (v : Verdict) → Does F.field F.value (state self.old.entries shelf.old (length work.old) out v) (scale place code to) (outcome_by (λ _. Done) result) (state self.new.entries shelf.new (length work.new) out v) }
     {
-        let table = self.one_table(shelf, work, place, to)?;
+        let (table, to) = self.one_table(shelf, work, place, to)?;
         let Some(factor) = F::from_code(code) else {
             return Err(Refusal::CodeOutside);
         };
@@ -114,7 +115,7 @@ impl Directory {
     ) -> Result<(), Refusal>
         ensures does { (out : List ℕ) (v : Verdict) → Does F.field F.value (state self.old.entries shelf.old (length work.old) out v) (after place letter to) (outcome_by (λ _. Done) result) (state self.new.entries shelf.new (length work.new) out v) }
     {
-        let table = self.one_table(shelf, work, place, to)?;
+        let (table, to) = self.one_table(shelf, work, place, to)?;
         let a = letter as usize;
         if a < 1 || a > table.letters {
             return Err(Refusal::LetterOutside { position: 1 });
@@ -134,15 +135,11 @@ impl Directory {
     ) -> Result<(), Refusal>
         ensures does { (out : List ℕ) (v : Verdict) → Does F.field F.value (state self.old.entries shelf.old (length work.old) out v) (load text.now to) (outcome_by (λ _. Done) result) (state self.new.entries shelf.new (length work.new) out v) }
     {
-        within(to)?;
+        let to = Place::try_from(to)?;
         room(shelf.len(), work.len())?;
-        match read_table(text, work) {
-            Err(fault) => Err(Refusal::Unreadable(fault)),
-            Ok(shape) => {
-                self.keep(shelf, work, to, shape.states, shape.letters);
-                Ok(())
-            }
-        }
+        let shape = read_table(text, work)?;
+        self.keep(shelf, work, to, shape.states, shape.letters);
+        Ok(())
     }
 
     /// Makes the sum of the tables of two places: it weighs each word as both together.
@@ -156,7 +153,7 @@ impl Directory {
     ) -> Result<(), Refusal>
         ensures does { (out : List ℕ) (v : Verdict) → Does F.field F.value (state self.old.entries shelf.old (length work.old) out v) (sum first second to) (outcome_by (λ _. Done) result) (state self.new.entries shelf.new (length work.new) out v) }
     {
-        let both = self.two_tables(shelf, work, first, second, to)?;
+        let (both, to) = self.two_tables(shelf, work, first, second, to)?;
         let states = both.left.states + both.right.states;
         if states > 16 {
             return Err(Refusal::StatesOver);
@@ -177,7 +174,7 @@ impl Directory {
     ) -> Result<(), Refusal>
         ensures does { (out : List ℕ) (v : Verdict) → Does F.field F.value (state self.old.entries shelf.old (length work.old) out v) (multiply first second to) (outcome_by (λ _. Done) result) (state self.new.entries shelf.new (length work.new) out v) }
     {
-        let both = self.two_tables(shelf, work, first, second, to)?;
+        let (both, to) = self.two_tables(shelf, work, first, second, to)?;
         let states = both.left.states * both.right.states;
         if states > 16 {
             return Err(Refusal::StatesOver);

@@ -11,50 +11,9 @@ ghost use Rattle.shelf.specs.Performing.{TakenUp};
 use crate::directory::Directory;
 use book::call::{Call, Request};
 use book::outcome::{Answer, Outcome};
-use book::refusal::Refusal;
 use book::theorems::uses_follow_the_book;
 use book::verdict::Verdict;
 use field::Field;
-
-// What comes of a call that answers nothing.
-fn made(r: Result<(), Refusal>) -> Outcome
-    ensures told { result ≡ outcome_by (λ _. Done) r }
-{
-    match r {
-        Ok(()) => Ok(Answer::Done),
-        Err(refusal) => Err(refusal),
-    }
-}
-
-// What comes of a call that answers a code.
-fn weighed(r: Result<u64, Refusal>) -> Outcome
-    ensures told { result ≡ outcome_by Code r }
-{
-    match r {
-        Ok(code) => Ok(Answer::Code(code)),
-        Err(refusal) => Err(refusal),
-    }
-}
-
-// What comes of a call that answers a count of bytes.
-fn written(r: Result<usize, Refusal>) -> Outcome
-    ensures told { result ≡ outcome_by Count r }
-{
-    match r {
-        Ok(count) => Ok(Answer::Count(count)),
-        Err(refusal) => Err(refusal),
-    }
-}
-
-// What comes of a call that answers a copy of the verdict that it wrote.
-fn compared(r: Result<(), Refusal>, verdict: &Verdict) -> Outcome
-    ensures told { result ≡ outcome_by (λ _. Told verdict.now) r }
-{
-    match r {
-        Ok(()) => Ok(Answer::Told(*verdict)),
-        Err(refusal) => Err(refusal),
-    }
-}
 
 impl Directory {
     /// Makes one call.
@@ -69,22 +28,29 @@ impl Directory {
         ensures does { Does F.field F.value (state self.old.entries shelf.old (length work.old) output.old verdict.old) (call_of call.now) result (state self.new.entries shelf.new (length work.new) output.new verdict.new) }
     {
         match *call {
-            Call::Load { text, to } => made(self.load(shelf, work, text, to)),
-            Call::Sum { first, second, to } => made(self.sum(shelf, work, first, second, to)),
-            Call::Scale { place, code, to } => made(self.scale(shelf, work, place, code, to)),
-            Call::Multiply { first, second, to } => {
-                made(self.multiply(shelf, work, first, second, to))
-            }
-            Call::After { place, letter, to } => made(self.after(shelf, work, place, letter, to)),
-            Call::Turn { place, to } => made(self.turn(shelf, work, place, to)),
-            Call::Reduce { place, to } => made(self.reduce(shelf, work, place, to)),
-            Call::Weigh { place, word } => weighed(self.weigh(shelf, work, place, word)),
-            Call::Compare { first, second } => {
-                let r = self.compare(shelf, work, first, second, verdict);
-                compared(r, verdict)
-            }
-            Call::Write { place } => written(self.write(shelf, place, output)),
-            Call::Clear { place } => made(self.clear(place)),
+            Call::Load { text, to } => self.load(shelf, work, text, to).map(|()| Answer::Done),
+            Call::Sum { first, second, to } => self
+                .sum(shelf, work, first, second, to)
+                .map(|()| Answer::Done),
+            Call::Scale { place, code, to } => self
+                .scale(shelf, work, place, code, to)
+                .map(|()| Answer::Done),
+            Call::Multiply { first, second, to } => self
+                .multiply(shelf, work, first, second, to)
+                .map(|()| Answer::Done),
+            Call::After { place, letter, to } => self
+                .after(shelf, work, place, letter, to)
+                .map(|()| Answer::Done),
+            Call::Turn { place, to } => self.turn(shelf, work, place, to).map(|()| Answer::Done),
+            Call::Reduce { place, to } => self
+                .reduce(shelf, work, place, to)
+                .map(|()| Answer::Done),
+            Call::Weigh { place, word } => self.weigh(shelf, work, place, word).map(Answer::Code),
+            Call::Compare { first, second } => self
+                .compare(shelf, work, first, second, verdict)
+                .map(|()| Answer::Told(*verdict)),
+            Call::Write { place } => self.write(shelf, place, output).map(Answer::Count),
+            Call::Clear { place } => self.clear(place).map(|()| Answer::Done),
         }
     }
 
@@ -130,8 +96,9 @@ impl Directory {
         // Holds the law that the contract states; nothing is done.
         uses_follow_the_book(F::zero());
         let count = requests.len().min(outcomes.len());
-        for i in 0..count {
-            outcomes[i] = self.take_up(shelf, work, output, verdict, &requests[i]);
+        let asked = &requests[..count];
+        for (i, request) in asked.iter().enumerate() {
+            outcomes[i] = self.take_up(shelf, work, output, verdict, request);
         }
         count
     }

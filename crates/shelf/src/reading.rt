@@ -5,8 +5,9 @@ ghost use Rattle.book.specs.Doing.{Does};
 ghost use Rattle.book.specs.declared.outcome.Answer.TheVariants.{Code, Told, Count};
 ghost use Rattle.shelf.specs.Views.{state, outcome_by, verdict_on};
 
-use crate::checks::{SHELF, within};
+use crate::checks::SHELF;
 use crate::directory::Directory;
+use crate::place::Place;
 use book::refusal::Refusal;
 use book::verdict::{Kind, Verdict};
 use field::Field;
@@ -15,24 +16,17 @@ use search::compare::Comparison;
 use text::shape::Shape;
 use writer::{text_size, write_table};
 
-// The verdict record of a comparison.
+// The verdict record of a comparison. Both types are of other crates, so this is no `From`.
 fn verdict_of(found: Comparison) -> Verdict
     ensures tells { result ≡ verdict_on found }
     ensures letters_31 { length result.letters ≡ 31 }
 {
     match found {
-        Comparison::Alike { tried, kept } => {
-            let letters = [0u8; 31];
-            Verdict {
-                kind: Kind::Alike,
-                tried,
-                kept,
-                length: 0,
-                first: 0,
-                second: 0,
-                letters,
-            }
-        }
+        Comparison::Alike { tried, kept } => Verdict {
+            tried,
+            kept,
+            ..Verdict::blank()
+        },
         Comparison::Differs {
             word,
             tried,
@@ -64,7 +58,7 @@ impl Directory {
     ) -> Result<u64, Refusal>
         ensures does { (out : List ℕ) (v : Verdict) → Does F.field F.value (state self.now.entries shelf.now (length work.old) out v) (weigh place word.now) (outcome_by Code result) (state self.now.entries shelf.now (length work.new) out v) }
     {
-        let table = self.one_table(shelf, work, place, place)?;
+        let (table, _) = self.one_table(shelf, work, place, place)?;
         match weighing::weigh(shelf, table, word, work) {
             Ok(weight) => Ok(weight.code()),
             Err(position) => Err(Refusal::LetterOutside { position }),
@@ -80,7 +74,7 @@ impl Directory {
     ) -> Result<usize, Refusal>
         ensures does { (work : ℕ) (v : Verdict) → Does F.field F.value (state self.now.entries shelf.now work output.old v) (write place) (outcome_by Count result) (state self.now.entries shelf.now work output.new v) }
     {
-        within(place)?;
+        let place = Place::try_from(place)?;
         if shelf.len() < SHELF {
             return Err(Refusal::MemoryShort);
         }
@@ -106,7 +100,7 @@ impl Directory {
     ) -> Result<(), Refusal>
         ensures does { (out : List ℕ) → Does F.field F.value (state self.now.entries shelf.now (length work.old) out verdict.old) (compare first second) (outcome_by (λ _. Told verdict.new) result) (state self.now.entries shelf.now (length work.new) out verdict.new) }
     {
-        let both = self.two_tables(shelf, work, first, second, second)?;
+        let (both, _) = self.two_tables(shelf, work, first, second, second)?;
         let found = search::compare::compare(work, shelf, both.left, both.right);
         *verdict = verdict_of(found);
         Ok(())

@@ -13,7 +13,7 @@ use Rattle.shelf.proofs.directory.Directory.after.Goals as goal
 pub after-requires : goal.after-requires
 after-requires g c =
     let f = c.in_ok-table.ensures.found in
-    record { table_lies = f.0.lies; letter_of_table = (c.if-a-lt1.false, c.if-a-table.false); room = front_room (length c.args.shelf.now) (length c.args.work.now) c.in_ok-table.table f.0.lies f.1.working }
+    record { table_lies = f.0.lies; letter_of_table = (c.if-a-lt1.false, c.if-a-table.false); room = front_room (length c.args.shelf.now) (length c.args.work.now) c.in_ok-table.table f.0.lies f.2.working }
 
 pub returns-then-a-lt1 : goal.returns-then-a-lt1
 returns-then-a-lt1 g c =
@@ -50,7 +50,7 @@ returns g c =
           made K v es c.keep.new.self.entries mem c.keep.new.shelf c.args.work.now c.after.new.work c.args.to t.states t.letters
               (after_table K c.args.letter (table_of K v mem t)) (after_table K c.args.letter (table K v (shelf_of es mem) c.args.place))
               c.after.ensures.after_written.same (ap (after_table K c.args.letter) (table_found K v es mem (length mem) c.args.place t c.in_ok-table.ensures.found.0))
-              c.keep.ensures.kept c.after.auto.work out w,
+              c.in_ok-table.ensures.found.1 c.keep.ensures.kept c.after.auto.work out w,
         ),
       );
     }

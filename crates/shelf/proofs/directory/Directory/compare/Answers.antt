@@ -1,5 +1,4 @@
 use Rattle.std.proofs.Common.{◌≡◌, length, sym, refl, ap, ◌∙◌, subst, subst₂}
-use Rattle.std.proofs.lemmas.Result.{err_from_is_err_and}
 use Rattle.rows.specs.Tables.{table_of}
 use Rattle.book.specs.Calls.{compare}
 use Rattle.book.specs.Verdicts.{Says}
@@ -14,8 +13,8 @@ use Rattle.shelf.proofs.directory.Directory.compare.Goals as goal
 pub returns-in_err-both : goal.returns-in_err-both
 returns-in_err-both g c = record {
   does = λ out.
-      refused g.F.Field.field g.F.Field.value (state c.args.self.now.entries c.args.shelf.now (length c.args.work.now) out c.args.verdict.now) (compare c.args.first c.args.second) (λ _. Told c.args.verdict.now) (err_from_is_err_and c.from_residual.result c.from_residual.ensures.1)
-      (c.in_err-both.ensures.checked (compare c.args.first c.args.second) out c.args.verdict.now (of_compare c.args.first c.args.second));
+      refused g.F.Field.field g.F.Field.value (state c.args.self.now.entries c.args.shelf.now (length c.args.work.now) out c.args.verdict.now) _ (compare c.args.first c.args.second) (λ _. Told c.args.verdict.now) c.from_residual.result c.from_residual.ensures.1
+      (c.in_err-both.ensures.checked (compare c.args.first c.args.second) out c.args.verdict.now (of_compare c.args.first c.args.second)) refl;
 }
 
 pub returns : goal.returns
@@ -26,7 +25,7 @@ returns g c =
     let mem = c.args.shelf.now in
     let l = c.in_ok-both.both.left in
     let r = c.in_ok-both.both.right in
-    let f = c.in_ok-both.ensures.found in
+    let f = c.in_ok-both.ensures.found.0 in
     let told : c.verdict_of.result ≡ verdict_on c.compare-found.result = c.verdict_of.ensures.tells in
     let here : Says K (table_of K v mem l) (table_of K v mem r) c.verdict_of.result =
     subst (Says K (table_of K v mem l) (table_of K v mem r)) (sym told) (says K (table_of K v mem l) (table_of K v mem r) c.compare-found.result (ap (λ z. length z.letters) (sym told) ∙ c.verdict_of.ensures.letters_31) c.compare-found.ensures.answer) in

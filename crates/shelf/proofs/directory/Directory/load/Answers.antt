@@ -1,53 +1,51 @@
 use Rattle.std.proofs.Common.{[], ◌∷◌, length, refl, ap, inl, inr}
-use Rattle.std.proofs.lemmas.Result.{err_from_is_err_and}
 use Rattle.rows.specs.Layout.{table_at}
 use Rattle.book.specs.Shelves.{Place}
 use Rattle.book.specs.Calls.{load}
 use Rattle.book.specs.declared.outcome.Answer.TheVariants.{Done}
 use Rattle.shelf.specs.Views.{state}
+use Rattle.shelf.proofs.Entries.{place_of}
 use Rattle.shelf.proofs.Gating.{of_one, makes_of_none, absent, short, past_4}
 use Rattle.shelf.proofs.Made.{same_refl, made, refused}
 use Rattle.shelf.proofs.Late.{load_accepts, load_refuses}
 use Rattle.shelf.proofs.directory.Directory.load.Goals as goal
 
-pub returns-in_err-within : goal.returns-in_err-within
-returns-in_err-within g c =
-    let p = err_from_is_err_and c.from_residual.result c.from_residual.ensures.1 in
+pub returns-in_err-to : goal.returns-in_err-to
+returns-in_err-to g c =
     let a = load c.args.text.now c.args.to in
     record {
       does = λ out w.
           let s = state c.args.self.now.entries c.args.shelf.now (length c.args.work.now) out w in
-          refused g.F.Field.field g.F.Field.value s a (λ _. Done) p
-          (absent g.F.Field.field s a [] (c.args.to ∷ []) 8192 (makes_of_none a c.args.to refl refl refl) c.args.to (inr (inl refl)) _ c.in_err-within.ensures.place_or_refused);
+          refused g.F.Field.field g.F.Field.value s s a (λ _. Done) c.from_residual.result c.from_residual.ensures.1
+          (absent g.F.Field.field s a [] (c.args.to ∷ []) 8192 (makes_of_none a c.args.to refl refl refl) c.args.to (inr (inl refl)) _ c.in_err-to.ensures) refl;
     }
 
 pub returns-in_err-room : goal.returns-in_err-room
 returns-in_err-room g c =
-    let p = err_from_is_err_and c.from_residual-in_err-room.result c.from_residual-in_err-room.ensures.1 in
     let a = load c.args.text.now c.args.to in
     record {
       does = λ out w.
           let s = state c.args.self.now.entries c.args.shelf.now (length c.args.work.now) out w in
-          refused g.F.Field.field g.F.Field.value s a (λ _. Done) p
-          (short g.F.Field.field s a [] (c.args.to ∷ []) 8192 (makes_of_none a c.args.to refl refl refl) (λ q m. absurd m) (of_one Place {p = c.args.to} c.in_ok-within.ensures.place_or_refused) _ c.in_err-room.ensures.room_or_refused);
+          refused g.F.Field.field g.F.Field.value s s a (λ _. Done) c.from_residual-in_err-room.result c.from_residual-in_err-room.ensures.1
+          (short g.F.Field.field s a [] (c.args.to ∷ []) 8192 (makes_of_none a c.args.to refl refl refl) (λ q m. absurd m) (of_one Place {p = c.args.to} (place_of c.in_ok-to.to c.args.to c.in_ok-to.ensures)) _ c.in_err-room.ensures.room_or_refused) refl;
     }
 
-pub returns-in-Ok : goal.returns-in-Ok
-returns-in-Ok g c =
+pub returns : goal.returns
+returns g c =
     let K = g.F.Field.field in
     let v = g.F.Field.value in
     let es = c.args.self.now.entries in
     let mem = c.args.shelf.now in
     let a = load c.args.text.now c.args.to in
-    let z = c.in-Ok.shape in
+    let z = c.in_ok-shape.shape in
     let R = table_at K v c.read_table.new.work 0 z.states z.letters in
-    let h = c.in-Ok.ensures.accepted_or_refused in
+    let h = c.in_ok-shape.ensures.accepted_or_refused in
     let there = c.in_ok-room.ensures.room_or_refused in
     record {
       does = λ out w.
           let s = state es mem (length c.args.work.now) out w in (
             load_accepts K s c.args.text.now c.args.to
-                (past_4 K s a [] (c.args.to ∷ []) 8192 (makes_of_none a c.args.to refl refl refl) (λ q m. absurd m) (of_one Place {p = c.args.to} c.in_ok-within.ensures.place_or_refused) there.0 there.1 (λ q m. absurd m))
+                (past_4 K s a [] (c.args.to ∷ []) 8192 (makes_of_none a c.args.to refl refl refl) (λ q m. absurd m) (of_one Place {p = c.args.to} (place_of c.in_ok-to.to c.args.to c.in_ok-to.ensures)) there.0 there.1 (λ q m. absurd m))
                 R h.sized h.is,
             (
               refl,
@@ -56,14 +54,14 @@ returns-in-Ok g c =
                 h.sized,
                 h.is,
                 made K v es c.keep.new.self.entries mem c.keep.new.shelf c.args.work.now c.read_table.new.work c.args.to z.states z.letters R R (same_refl R) refl
-                    c.keep.ensures.kept c.read_table.auto.work out w,
+                    c.in_ok-to.ensures c.keep.ensures.kept c.read_table.auto.work out w,
               ),
             ),
           );
     }
 
-pub returns-in-Err : goal.returns-in-Err
-returns-in-Err g c =
+pub returns-in_err-shape : goal.returns-in_err-shape
+returns-in_err-shape g c =
     let K = g.F.Field.field in
     let es = c.args.self.now.entries in
     let mem = c.args.shelf.now in
@@ -71,10 +69,10 @@ returns-in-Err g c =
     let there = c.in_ok-room.ensures.room_or_refused in
     record {
       does = λ out w.
-          let s = state es mem (length c.args.work.now) out w in (
-            load_refuses K s c.args.text.now c.args.to
-                (past_4 K s a [] (c.args.to ∷ []) 8192 (makes_of_none a c.args.to refl refl refl) (λ q m. absurd m) (of_one Place {p = c.args.to} c.in_ok-within.ensures.place_or_refused) there.0 there.1 (λ q m. absurd m))
-                c.in-Err.fault c.in-Err.ensures.accepted_or_refused,
-            ap (λ n. state es mem n out w) c.read_table.auto.work,
-          );
+          let s = state es mem (length c.args.work.now) out w in
+          refused K g.F.Field.value s _ a (λ _. Done) c.from_residual-in_err-shape.result c.from_residual-in_err-shape.ensures.1
+          (load_refuses K s c.args.text.now c.args.to
+              (past_4 K s a [] (c.args.to ∷ []) 8192 (makes_of_none a c.args.to refl refl refl) (λ q m. absurd m) (of_one Place {p = c.args.to} (place_of c.in_ok-to.to c.args.to c.in_ok-to.ensures)) there.0 there.1 (λ q m. absurd m))
+              _ c.in_err-shape.ensures.accepted_or_refused)
+          (ap (λ n. state es mem n out w) c.read_table.auto.work);
     }

@@ -1,5 +1,4 @@
 use Rattle.std.proofs.Common.{◌*◌, ◌<◌, ◌≤◌, length, sym, refl, ap₂, subst₂, arith}
-use Rattle.std.proofs.lemmas.Result.{err_from_is_err_and}
 use Rattle.series.specs.Operations.{product_table}
 use Rattle.rows.specs.Tables.{table_of}
 use Rattle.text.proofs.Limits.{block_fits}
@@ -14,25 +13,25 @@ use Rattle.shelf.proofs.directory.Directory.multiply.Goals as goal
 
 pub multiply-requires : goal.multiply-requires
 multiply-requires g c =
-    let f = c.in_ok-both.ensures.found in
+    let f = c.in_ok-both.ensures.found.0 in
     record {
       left_lies = f.left.lies;
       right_lies = f.right.lies;
       same_letters = f.same_letters;
       few_states = c.if-states-gt16.false;
-      room = omega (arith, block_fits (c.in_ok-both.both.left.states * c.in_ok-both.both.right.states) c.in_ok-both.both.left.letters (record { states = c.if-states-gt16.false; some_letter = f.left.lies.some_letter; letters = f.left.lies.few_letters }), f.room.working);
+      room = omega (arith, block_fits (c.in_ok-both.both.left.states * c.in_ok-both.both.right.states) c.in_ok-both.both.left.letters (record { states = c.if-states-gt16.false; some_letter = f.left.lies.some_letter; letters = f.left.lies.few_letters }), c.in_ok-both.ensures.found.2.working);
     }
 
 pub returns-in_err-both : goal.returns-in_err-both
 returns-in_err-both g c = record {
   does = λ out w.
-      refused g.F.Field.field g.F.Field.value (state c.args.self.now.entries c.args.shelf.now (length c.args.work.now) out w) (multiply c.args.first c.args.second c.args.to) (λ _. Done) (err_from_is_err_and c.from_residual.result c.from_residual.ensures.1)
-      (c.in_err-both.ensures.checked (multiply c.args.first c.args.second c.args.to) out w (of_multiply c.args.first c.args.second c.args.to));
+      refused g.F.Field.field g.F.Field.value (state c.args.self.now.entries c.args.shelf.now (length c.args.work.now) out w) _ (multiply c.args.first c.args.second c.args.to) (λ _. Done) c.from_residual.result c.from_residual.ensures.1
+      (c.in_err-both.ensures.checked (multiply c.args.first c.args.second c.args.to) out w (of_multiply c.args.first c.args.second c.args.to)) refl;
 }
 
 pub returns-then-states-gt16 : goal.returns-then-states-gt16
 returns-then-states-gt16 g c =
-    let f = c.in_ok-both.ensures.found in
+    let f = c.in_ok-both.ensures.found.0 in
     record {
       does = λ out w. (
         multiply_refuses g.F.Field.field (state c.args.self.now.entries c.args.shelf.now (length c.args.work.now) out w) c.args.first c.args.second c.args.to
@@ -50,7 +49,7 @@ returns g c =
     let mem = c.args.shelf.now in
     let l = c.in_ok-both.both.left in
     let r = c.in_ok-both.both.right in
-    let f = c.in_ok-both.ensures.found in
+    let f = c.in_ok-both.ensures.found.0 in
     record {
       does = λ out w. (
         multiply_accepts K (state es mem (length c.args.work.now) out w) c.args.first c.args.second c.args.to
@@ -62,7 +61,7 @@ returns g c =
               (product_table K (table_of K v mem l) (table_of K v mem r)) (product_table K (table K v (shelf_of es mem) c.args.first) (table K v (shelf_of es mem) c.args.second))
               c.multiply.ensures.product_written.same
               (ap₂ (product_table K) (table_found K v es mem (length mem) c.args.first l f.left) (table_found K v es mem (length mem) c.args.second r f.right))
-              c.keep.ensures.kept c.multiply.auto.work out w,
+              c.in_ok-both.ensures.found.1 c.keep.ensures.kept c.multiply.auto.work out w,
         ),
       );
     }

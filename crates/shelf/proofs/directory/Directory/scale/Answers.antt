@@ -13,7 +13,7 @@ use Rattle.shelf.proofs.directory.Directory.scale.Goals as goal
 pub scale-requires : goal.scale-requires
 scale-requires g c =
     let f = c.in_ok-table.ensures.found in
-    record { table_lies = f.0.lies; room = front_room (length c.args.shelf.now) (length c.args.work.now) c.in_ok-table.table f.0.lies f.1.working }
+    record { table_lies = f.0.lies; room = front_room (length c.args.shelf.now) (length c.args.work.now) c.in_ok-table.table f.0.lies f.2.working }
 
 pub returns-in_default : goal.returns-in_default
 returns-in_default g c =
@@ -49,7 +49,7 @@ returns g c =
           made K v es c.keep.new.self.entries mem c.keep.new.shelf c.args.work.now c.scale.new.work c.args.to t.states t.letters
               (scaled_table K (v c.in-Some.factor) (table_of K v mem t)) (scaled_table K (K.decode c.args.code) (table K v (shelf_of es mem) c.args.place))
               c.scale.ensures.scaled_written.same (ap (λ x. scaled_table K x (table_of K v mem t)) h.1 ∙ ap (scaled_table K (K.decode c.args.code)) (table_found K v es mem (length mem) c.args.place t c.in_ok-table.ensures.found.0))
-              c.keep.ensures.kept c.scale.auto.work out w,
+              c.in_ok-table.ensures.found.1 c.keep.ensures.kept c.scale.auto.work out w,
         ),
       );
     }

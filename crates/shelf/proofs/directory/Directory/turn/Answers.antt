@@ -13,7 +13,7 @@ use Rattle.shelf.proofs.directory.Directory.turn.Goals as goal
 pub turn-requires : goal.turn-requires
 turn-requires g c =
     let f = c.in_ok-table.ensures.found in
-    record { table_lies = f.0.lies; room = front_room (length c.args.shelf.now) (length c.args.work.now) c.in_ok-table.table f.0.lies f.1.working }
+    record { table_lies = f.0.lies; room = front_room (length c.args.shelf.now) (length c.args.work.now) c.in_ok-table.table f.0.lies f.2.working }
 
 pub returns : goal.returns
 returns g c =
@@ -31,7 +31,7 @@ returns g c =
           made K v es c.keep.new.self.entries mem c.keep.new.shelf c.args.work.now c.turn.new.work c.args.to t.states t.letters
               (turned_table K (table_of K v mem t)) (turned_table K (table K v (shelf_of es mem) c.args.place))
               c.turn.ensures.turned_written.same (ap (turned_table K) (table_found K v es mem (length mem) c.args.place t c.in_ok-table.ensures.found.0))
-              c.keep.ensures.kept c.turn.auto.work out w,
+              c.in_ok-table.ensures.found.1 c.keep.ensures.kept c.turn.auto.work out w,
         ),
       );
     }
