@@ -1,11 +1,11 @@
 -- What several steps of the reader go over, and where they stop. Assumes nothing.
-use Rattle.std.proofs.Common.{◌≡◌, ℕ, zero, suc, ◌+◌, ◌*◌, ◌^◌, ◌<◌, ◌≤◌, ◌⊎◌, List, [], ◌∷◌, ◌++◌, length, take, set, replicate, sym, refl, ap, ◌∙◌, subst, inl, inr, append_assoc, append-nil, arith}
+use Rattle.std.proofs.Common.{◌≡◌, ℕ, zero, suc, ◌+◌, ◌*◌, ◌^◌, ◌<◌, ◌≤◌, ◌⊎◌, List, [], ◌∷◌, ◌++◌, length, get_or, take, drop, set, replicate, sym, refl, ap, ◌∙◌, subst, inl, inr, append_assoc, append-nil, arith}
 use Rattle.std.specs.List.{AllByRecursion as All}
-use Rattle.std.proofs.lemmas.List.{take_more_set, length-take, take_at, take_all}
+use Rattle.std.proofs.lemmas.List.{take_more, take_more_set, drop_more, take-append-drop, map-append, length-take, take_at, take_all}
 use Rattle.std.proofs.slice.Lists.{all_by_recursion_push}
 use Rattle.columns.specs.Numbers.{number}
-use Rattle.columns.specs.Lines.{numbers}
-use Rattle.reader.specs.Items.{Item, first, ranged, close, along, after, Passes, Goes, Misfits, Stopped, Stops}
+use Rattle.columns.specs.Lines.{numbers, TenDigits}
+use Rattle.reader.specs.Items.{Item, first, ranged, close, along, after, exact_items, Passes, Goes, Misfits, Stopped, Stops}
 use Rattle.reader.specs.Steps.{left, Went}
 use Rattle.faults.specs.declared.Position.{Position}
 use Rattle.faults.specs.declared.LoadFault.{LoadFault}
@@ -124,6 +124,64 @@ went_stops i is r s a f h w stops = inr (a, left s, h, w.over, subst (λ p. Stop
 pub went_stops_all : (is js : List Item) (r s : Reader) (a : List ℕ) (f : LoadFault) → Goes is a → Went r s a (after_all is r.position) → Stops js s.position (left s) f → Stops (is ++ js) r.position (left r) f
 went_stops_all is js r s a f h w stops = subst (λ l. Stops (is ++ js) r.position l f) (sym w.over) (stops_past is js r.position a (left s) f h (subst (λ p. Stops js p (left s) f) w.position stops))
 
+-- a number that has one value to take
+pub exact : (r s : Reader) (v a : ℕ) (p : Position) → a ≤ v → v ≤ a → Went r s (number v) p → Went r s (number a) p
+exact r s v a p l h w = let e : v ≡ a = omega arith in subst (λ x. Went r s (number x) p) e w
+
+pub stops_here : (i : Item) (is : List Item) (p : Position) (bs : List ℕ) (f : LoadFault) → Stopped i p bs f → Stops (i ∷ is) p bs f
+unfolding Stops
+stops_here i is p bs f h = inl h
+
+-- numbers of just these values
+pub goes_exact : (vs : List ℕ) → TenDigits vs → Goes (exact_items vs) (numbers vs)
+unfolding Goes
+goes_exact [] small = refl
+goes_exact (v ∷ vs) small = (number v, numbers vs, (v, small.0, omega arith, omega arith, refl), goes_exact vs small.1, refl)
+
+pub after_exact : (vs : List ℕ) (p : Position) → after_all (exact_items vs) p ≡ along p (11 * length vs)
+after_exact [] p = standing p 0 refl
+after_exact (v ∷ vs) p = after_exact vs (along p 11) ∙ along_along p 11 (11 * length vs) (11 * suc (length vs)) (omega arith)
+
+-- the position after them and a row
+pub heads_after : (vs : List ℕ) (high n : ℕ) (p : Position) → after_all (exact_items vs ++ replicate n (ranged 0 high)) p ≡ along p (11 * length vs + 11 * n)
+heads_after vs high n p = after_append (exact_items vs) (replicate n (ranged 0 high)) p ∙ ap (after_all (replicate n (ranged 0 high))) (after_exact vs p) ∙ after_row high n (along p (11 * length vs)) ∙ along_along p (11 * length vs) (11 * n) (11 * length vs + 11 * n) refl
+
+pub exact_past : (vs : List ℕ) (js : List Item) (r s : Reader) (f : LoadFault) → TenDigits vs → Went r s (numbers vs) (along r.position (11 * length vs)) → Stops js s.position (left s) f → Stops (exact_items vs ++ js) r.position (left r) f
+exact_past vs js r s f small w stops = went_stops_all (exact_items vs) js r s _ f (goes_exact vs small) (subst (Went r s (numbers vs)) (sym (after_exact vs r.position)) w) stops
+
+-- the first i of them are read
+pub record Matched (r s : Reader) (vs : List ℕ) (i : ℕ) : Type 0 where
+  pub went : Went r s (numbers (take i vs)) (along r.position (11 * i))
+  pub small : TenDigits (take i vs)
+
+pub matched_none : (r : Reader) (vs : List ℕ) → Matched r r vs 0
+matched_none r vs = record { went = went_none r _ (standing r.position 0 refl); small = tt }
+
+pub matched_more : (r s t : Reader) (vs : List ℕ) (i v : ℕ) → i < length vs → Matched r s vs i → v < 10 ^ 10 → get_or vs i 0 ≤ v → v ≤ get_or vs i 0 → Went s t (number v) (along s.position 11) → Matched r t vs (i + 1)
+matched_more r s t vs i v on matched small low high w =
+    let one = exact s t v (get_or vs i 0) _ low high (subst (λ p. Went s t (number v) (along p 11)) matched.went.position w) in
+    let whole = take_more vs i 0 on in
+    record {
+      went = rw whole (rw numbers_more (went_along r t _ r.position (11 * i) 11 (11 * (i + 1)) (omega arith) (went_more r s t _ _ _ _ matched.went one)));
+      small = rw whole (all_by_recursion_push (λ v. v < 10 ^ 10) (take i vs) (get_or vs i 0) matched.small (omega arith));
+    }
+
+pub matched_stops : (r s : Reader) (vs : List ℕ) (i : ℕ) (f : LoadFault) → i < length vs → Matched r s vs i → Stopped (ranged (get_or vs i 0) (get_or vs i 0)) s.position (left s) f → Stops (exact_items vs) r.position (left r) f
+matched_stops r s vs i f on matched stopped =
+    let v = get_or vs i 0 in
+    let long : length (take i vs) ≡ i = simp length-take (omega arith) in
+    let parts : exact_items vs ≡ exact_items (take i vs) ++ (ranged v v ∷ exact_items (drop (i + 1) vs)) =
+    ap exact_items (sym (take-append-drop i vs) ∙ ap (λ l. take i vs ++ l) (drop_more vs i 0 on)) ∙ map-append (λ n. ranged n n) (take i vs) (v ∷ drop (i + 1) vs) in
+    subst (λ is. Stops is r.position (left r) f) (sym parts)
+    (exact_past (take i vs) _ r s f matched.small (subst (λ n. Went r s (numbers (take i vs)) (along r.position (11 * n))) (sym long) matched.went) (stops_here _ _ _ _ _ stopped))
+
+pub matched_all : (r s : Reader) (vs : List ℕ) (i : ℕ) → i ≡ length vs → Matched r s vs i → TenDigits vs × Went r s (numbers vs) (along r.position (11 * length vs))
+matched_all r s vs i e matched =
+    let all : take i vs ≡ vs = take_all i vs (omega arith) in (
+      subst TenDigits all matched.small,
+      subst (λ n. Went r s (numbers vs) (along r.position (11 * n))) e (subst (λ l. Went r s (numbers l) (along r.position (11 * i))) all matched.went),
+    )
+
 -- a line's head, its numbers and its end
 module _ (k : ℕ) (r s t : Reader) (body : List ℕ) (m : ℕ) (head : Went r s (k ∷ []) (along r.position 1)) (then : Went s t body (along s.position m)) where
   same_line : t.position.line ≡ r.position.line
@@ -141,15 +199,8 @@ module _ (k : ℕ) (r s t : Reader) (body : List ℕ) (m : ℕ) (head : Went r s
 pub went_on : (r s t : Reader) (a b : List ℕ) (m n k : ℕ) → m + n ≡ k → Went r s a (along r.position m) → Went s t b (along s.position n) → Went r t (a ++ b) (along r.position k)
 went_on r s t a b m n k e f g = went_along r t _ r.position m n k e (went_more r s t a b _ _ f (subst (λ p. Went s t b (along p n)) f.position g))
 
--- a number that has one value to take
-pub exact : (r s : Reader) (v a : ℕ) (p : Position) → a ≤ v → v ≤ a → Went r s (number v) p → Went r s (number a) p
-exact r s v a p l h w = let e : v ≡ a = omega arith in subst (λ x. Went r s (number x) p) e w
-
 pub went_nil : (r s : Reader) (a : List ℕ) (p : Position) → Went r s a p → Went r s (a ++ []) p
 went_nil r s a p w = subst (λ l. Went r s l p) (sym (append-nil a)) w
-
-pub matrix_after : (a b high n : ℕ) (p : Position) → after_all (ranged a a ∷ ranged b b ∷ replicate n (ranged 0 high)) p ≡ along p (11 + (11 + 11 * n))
-matrix_after a b high n p = after_row high n (along (along p 11) 11) ∙ along_along (along p 11) 11 (11 * n) (11 + 11 * n) refl ∙ along_along p 11 (11 + 11 * n) (11 + (11 + 11 * n)) refl
 
 pub head_stops : (k : ℕ) (is : List Item) (r s : Reader) (f : LoadFault) → Went r s (k ∷ []) (along r.position 1) → Stops is s.position (left s) f → Stops (first k ∷ is) r.position (left r) f
 head_stops k is r s f w stops = went_stops (first k) is r s _ f refl w stops
@@ -160,10 +211,6 @@ value_stops low high is r s v f small l h w stops = went_stops (ranged low high)
 pub value_goes : (low high : ℕ) (is : List Item) (v : ℕ) (b : List ℕ) → v < 10 ^ 10 → low ≤ v → v ≤ high → Goes is b → Goes (ranged low high ∷ is) (number v ++ b)
 unfolding Goes
 value_goes low high is v b small l h g = (number v, b, (v, small, l, h, refl), g, refl)
-
-pub stops_here : (i : Item) (is : List Item) (p : Position) (bs : List ℕ) (f : LoadFault) → Stopped i p bs f → Stops (i ∷ is) p bs f
-unfolding Stops
-stops_here i is p bs f h = inl h
 
 pub stops_exact : (v q : ℕ) (is : List Item) (p : Position) (bs : List ℕ) (f : LoadFault) → v ≡ q → Stops (ranged v v ∷ is) p bs f → Stops (ranged q q ∷ is) p bs f
 stops_exact v q is p bs f e s = subst (λ n. Stops (ranged n n ∷ is) p bs f) e s

@@ -1,5 +1,5 @@
 -- What is due in a text, item by item, and where a reader of it stops. Assumes nothing.
-use Rattle.std.specs.Prelude.{◌≡◌, ℕ, ◌+◌, ◌^◌, ◌<◌, ◌≤◌, ◌⊎◌, List, [], ◌∷◌, ◌++◌, length, take}
+use Rattle.std.specs.Prelude.{◌≡◌, ℕ, ◌+◌, ◌^◌, ◌<◌, ◌≤◌, ◌⊎◌, List, [], ◌∷◌, ◌++◌, map, length, take}
 use Rattle.columns.specs.Numbers.{number, Begins}
 use Rattle.faults.specs.declared.Position.{Position}
 use Rattle.faults.specs.declared.LineFault.{LineFault}
@@ -84,6 +84,10 @@ Goes (i ∷ is) bs = (a : List ℕ) × (b : List ℕ) × Passes i a × Goes is b
 unfoldable pub Stops : List Item → Position → List ℕ → LoadFault → Type 0
 Stops [] p bs f = ⊥
 Stops (i ∷ is) p bs f = Stopped i p bs f ⊎ ((a : List ℕ) × (b : List ℕ) × Passes i a × (bs ≡ a ++ b) × Stops is (after i p) b f)
+
+-- a number for each of the values, of just that value
+abbrev pub exact_items : List ℕ → List Item
+exact_items vs = map (λ v. ranged v v) vs
 
 -- a line's items
 abbrev pub line_items : ℕ → List Item → List Item

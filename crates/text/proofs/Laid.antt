@@ -2,7 +2,7 @@
 use Rattle.std.proofs.Common.{◌≡◌, ℕ, zero, suc, ◌+◌, ◌-◌, ◌*◌, ◌/◌, ◌%◌, ◌<◌, ◌≤◌, List, [], ◌∷◌, ◌++◌, map, length, get_or, take, drop, sym, refl, ap, ◌∙◌, subst, mul_assoc, add-mul, zero-mul, add-one, arith}
 use Rattle.std.specs.List.{range_with_len, flat_map}
 use Rattle.std.proofs.lemmas.Nat.{div-mul-add, mod-mul-add}
-use Rattle.std.proofs.lemmas.List.{length-map, take-map, drop-map, drop-drop, drop_more, take-take, drop-take}
+use Rattle.std.proofs.lemmas.List.{length-map, map-append, length-append, take_at, drop_at, take_all, drop-drop, drop_more, take-take, drop-take}
 use Rattle.field.specs.FiniteField.{FiniteField}
 use Rattle.rows.specs.Memory.{at, row_at, square_at}
 use Rattle.rows.specs.Layout.{table_size, matrix_offset, end_offset, table_at}
@@ -98,16 +98,26 @@ module _ {F V : Type 0} (K : FiniteField V) (value : F → V) where
         let end = codes_row xs (row_at K value xs (end_offset base n k)) (base + n + k * n * n) n (omega (arith, cells)) (λ i. ap (at K value xs) (omega (arith, cells))) in
         λ t. line 83 (start t) ++ (matrices t ++ (line 69 (end t) ++ line 90 []))
 
-  -- the table that is read part by part
-  pub read_laid : (r s : Reader) (p : Position) (xs start rows end : List F) (n k : ℕ) → length xs ≡ table_size n k → (take n xs ≡ start) × (take (k * n * n) (drop n xs) ≡ rows) × (take n (drop (n + k * n * n) xs) ≡ end)
-      → Went r s (body n (k * n) (codes_of K value start) (codes_of K value rows) (codes_of K value end)) p → Went r s (body_of K (table_at K value xs 0 n k)) p
-  read_laid r s p xs start rows end n k room (a, b, d) w =
+  -- a table whose start row, matrices and end column lie one after another
+  pub parts_laid : (start rows end : List F) (n k : ℕ) → length start ≡ n → length rows ≡ k * n * n → length end ≡ n → body_of K (table_at K value (start ++ (rows ++ end)) 0 n k) ≡ body n (k * n) (codes_of K value start) (codes_of K value rows) (codes_of K value end)
+  parts_laid start rows end n k first middle last =
       let c = λ (x : F). K.code (value x) in
+      let m = k * n * n in
+      let s = codes_of K value start in
+      let r = codes_of K value rows in
+      let e = codes_of K value end in
+      let long = λ (xs : List F). length-map xs c in
+      let all : codes_of K value (start ++ (rows ++ end)) ≡ s ++ (r ++ e) = map-append c start (rows ++ end) ∙ ap (λ l. s ++ l) (map-append c rows end) in
       let z : 0 + n ≡ n = omega arith in
-      let first : take n (codes_of K value xs) ≡ codes_of K value start = take-map c n xs ∙ ap (map c) a in
-      let middle : take (k * n * n) (drop (0 + n) (codes_of K value xs)) ≡ codes_of K value rows = ap (λ m. take (k * n * n) (drop m (codes_of K value xs))) z ∙ ap (take (k * n * n)) (drop-map c n xs) ∙ take-map c (k * n * n) (drop n xs) ∙ ap (map c) b in
-      let last : take n (drop (0 + n + k * n * n) (codes_of K value xs)) ≡ codes_of K value end = ap (λ m. take n (drop (m + k * n * n) (codes_of K value xs))) z ∙ ap (take n) (drop-map c (n + k * n * n) xs) ∙ take-map c n (drop (n + k * n * n) xs) ∙ ap (map c) d in
-      subst (λ l. Went r s l p) (sym (laid xs 0 n k (omega arith) ∙ (λ t. body n (k * n) (first t) (middle t) (last t)))) w
+      let past : drop (0 + n) (s ++ (r ++ e)) ≡ r ++ e = ap (λ i. drop i (s ++ (r ++ e))) z ∙ drop_at s (r ++ e) n (long start ∙ first) in
+      laid (start ++ (rows ++ end)) 0 n k (omega (arith, length-append start (rows ++ end), length-append rows end, mul_assoc k n n))
+      ∙ ap (λ l. body n (k * n) (take n l) (take m (drop (0 + n) l)) (take n (drop (0 + n + m) l))) all
+      ∙ (λ t. body n (k * n) (take_at s (r ++ e) n (long start ∙ first) t) ((ap (take m) past ∙ take_at r e m (long rows ∙ middle)) t)
+      ((ap (take n) (sym (drop-drop m (0 + n) (s ++ (r ++ e))) ∙ ap (drop m) past ∙ drop_at r e m (long rows ∙ middle)) ∙ take_all n e (omega (arith, long end))) t))
+
+  pub read_laid : (r s : Reader) (p : Position) (start rows end : List F) (n k : ℕ) → length start ≡ n → length rows ≡ k * n * n → length end ≡ n
+      → Went r s (body n (k * n) (codes_of K value start) (codes_of K value rows) (codes_of K value end)) p → Went r s (body_of K (table_at K value (start ++ (rows ++ end)) 0 n k)) p
+  read_laid r s p start rows end n k first middle last w = subst (λ l. Went r s l p) (sym (parts_laid start rows end n k first middle last)) w
 
   -- what is due, by one count through the letters and the rows
   pub due_items : (n k : ℕ) → items (K.q - 1) n (k * n) ≡ body_items K n k

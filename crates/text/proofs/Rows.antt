@@ -14,7 +14,7 @@ use Rattle.faults.specs.declared.Position.{Position}
 use Rattle.faults.specs.declared.LoadFault.{LoadFault}
 use Rattle.reader.specs.declared.Reader.{Reader}
 use Rattle.text.proofs.Joins.{joined_more_counting, joined_same, joined_split, rows_fit, row_here}
-use Rattle.reader.proofs.Runs.{after_all, went_none, went_more, stops_front, went_stops_all, goes_append, after_append, goes_row, matrix_after, value_goes, after_row}
+use Rattle.reader.proofs.Runs.{after_all, went_none, went_more, stops_front, went_stops_all, goes_append, after_append, goes_row, heads_after, value_goes, after_row}
 
 -- what is due in the line of row j
 abbrev pub items_at : ℕ → ℕ → ℕ → List Item
@@ -43,11 +43,11 @@ at_start p e = λ i. record { line = sym (add-zero p.line) i; column = e i }
 pub down_down : (p : Position) (j k m : ℕ) → j + k ≡ m → down (down p j) k ≡ down p m
 down_down p j k m e = λ i. record { line = (let w : p.line + j + k ≡ p.line + m = omega arith in w) i; column = 1 }
 
-pub lined_none : (r : Reader) (n high : ℕ) (codes : List ℕ) → r.at ≤ length r.text.now → r.position.column ≡ 1 → Lined r r n high codes 0
+pub lined_none : (r : Reader) (n high : ℕ) (codes : List ℕ) → r.position.column ≡ 1 → Lined r r n high codes 0
 unfolding Goes
-lined_none r n high codes h e =
+lined_none r n high codes e =
     let z : 0 * n ≡ 0 = omega arith in
-    record { went = went_none r _ h (at_start r.position e); goes = refl; below = subst (λ m. All (λ v. v ≤ high) (take m codes)) (sym z) tt }
+    record { went = went_none r _ (at_start r.position e); goes = refl; below = subst (λ m. All (λ v. v ≤ high) (take m codes)) (sym z) tt }
 
 module _ (n high : ℕ) (small : high < 10 ^ 10) where
   matrix_goes : (j : ℕ) (ys : List ℕ) → j < 1000 → length ys ≡ n → All (λ v. v ≤ high) ys → Goes (items_at high n j) (line 77 ((j / n + 1) ∷ (j % n + 1) ∷ ys))
@@ -91,7 +91,7 @@ module _ (n high : ℕ) (small : high < 10 ^ 10) where
   pub after_line : (j : ℕ) (p : Position) → after_all (items_at high n j) p ≡ down p 1
   after_line j p =
       let is = ranged (j / n + 1) (j / n + 1) ∷ ranged (j % n + 1) (j % n + 1) ∷ replicate n (ranged 0 high) in
-      after_append is (close ∷ []) (along p 1) ∙ ap (after close) (matrix_after (j / n + 1) (j % n + 1) high n (along p 1))
+      after_append is (close ∷ []) (along p 1) ∙ ap (after close) (heads_after ((j / n + 1) ∷ (j % n + 1) ∷ []) high n (along p 1))
 
   pub after_lines : (a j : ℕ) (p : Position) → p.column ≡ 1 → after_all (flat_map (items_at high n) (range_with_len a j)) p ≡ down p j
   after_lines a zero p e = at_start p e

@@ -5,11 +5,11 @@ use Rattle.std.proofs.lemmas.List.{length-append}
 use Rattle.field.specs.FiniteField.{FiniteField}
 use Rattle.field.proofs.Laws.{code_only}
 use Rattle.series.specs.Tables.{Table, Agree, SameTable}
-use Rattle.columns.specs.Lines.{line}
+use Rattle.columns.specs.Lines.{line, TenDigits}
 use Rattle.text.specs.Texts.{Limits, text_size, codes, matrix_line, matrix_lines, body_of, text_of}
 use Rattle.text.specs.Readings.{Sized}
 use Rattle.text.specs.Facts.{LengthIs, ToldApart}
-use Rattle.columns.proofs.Lengths.{Small, length_line, length_joined, line_same, joined_parts}
+use Rattle.columns.proofs.Lengths.{length_line, length_joined, line_same, joined_parts}
 
 -- equal lists of what two functions give at each count
 pub agree_from : (f g : ℕ → ℕ) (a n : ℕ) → map f (range_with_len a n) ≡ map g (range_with_len a n) → (i : ℕ) → i < n → f (a + i) ≡ g (a + i)
@@ -18,11 +18,11 @@ agree_from f g a (suc n) e zero h = let z : a ≡ a + 0 = omega arith in ap f (s
 agree_from f g a (suc n) e (suc i) h = let s : a + 1 + i ≡ a + suc i = omega arith in ap f (sym s) ∙ agree_from f g (a + 1) n (ap (drop 1) e) i (omega arith) ∙ ap g s
 
 module _ {V : Type 0} (K : FiniteField V) where
-  codes_small_from : (x : ℕ → V) (a n : ℕ) → Small (map (λ i. K.code (x i)) (range_with_len a n))
+  codes_small_from : (x : ℕ → V) (a n : ℕ) → TenDigits (map (λ i. K.code (x i)) (range_with_len a n))
   codes_small_from x a zero = tt
   codes_small_from x a (suc n) = (omega (arith, K.code_below (x a), K.q_high), codes_small_from x (a + 1) n)
 
-  pub codes_few : (n : ℕ) (x : ℕ → V) → Small (codes K n x)
+  pub codes_few : (n : ℕ) (x : ℕ → V) → TenDigits (codes K n x)
   codes_few n x = codes_small_from x 0 n
 
   length_from : (x : ℕ → V) (a n : ℕ) → length (map (λ i. K.code (x i)) (range_with_len a n)) ≡ n
@@ -38,10 +38,10 @@ module _ {V : Type 0} (K : FiniteField V) where
       code_only K (x i) (y i) (ap (λ j. K.code (x j)) (sym z) ∙ agree_from (λ j. K.code (x j)) (λ j. K.code (y j)) 0 n e i h ∙ ap (λ j. K.code (y j)) z)
 
   module _ (T : Table V) (sized : Sized T) where
-    table_few : Small (T.states ∷ T.letters ∷ K.q ∷ [])
+    table_few : TenDigits (T.states ∷ T.letters ∷ K.q ∷ [])
     table_few = (omega (arith, sized.states), (omega (arith, sized.letters), (omega (arith, K.q_high), tt)))
 
-    matrix_few : (a i : ℕ) → a ≤ 6 → i < 16 → Small (a ∷ (i + 1) ∷ codes K T.states (T.step a i))
+    matrix_few : (a i : ℕ) → a ≤ 6 → i < 16 → TenDigits (a ∷ (i + 1) ∷ codes K T.states (T.step a i))
     matrix_few a i h l = (omega arith, (omega arith, codes_few T.states (T.step a i)))
 
     length_matrix_line : (a i : ℕ) → a ≤ 6 → i < 16 → length (matrix_line K T a i) ≡ 24 + 11 * T.states

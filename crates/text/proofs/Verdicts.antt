@@ -1,7 +1,7 @@
 -- What a whole reading leaves and tells. Assumes nothing.
 use Rattle.std.proofs.Common.{◌≡◌, ℕ, ◌+◌, ◌-◌, ◌*◌, ◌<◌, ◌≤◌, List, [], ◌∷◌, ◌++◌, length, get_or, take, drop, sym, refl, ap, ◌∙◌, subst, append_assoc, append-nil, mul_assoc, arith}
 use borrow.Rule.Slice.PartMut.{put_mid}
-use Rattle.std.proofs.lemmas.List.{length-map, length-drop, length-append, map-append, drop-append-le, take-append-le, drop_all, get_or-append_right, get_or-drop}
+use Rattle.std.proofs.lemmas.List.{length-map, length-drop, length-append, map-append, drop-append-le, take-append-le, get_or-append_right, get_or-drop}
 use Rattle.field.specs.FiniteField.{FiniteField}
 use Rattle.rows.specs.Memory.{Frame}
 use Rattle.rows.specs.Layout.{table_size, table_at}
@@ -15,7 +15,7 @@ use Rattle.faults.specs.declared.LoadFault.{LoadFault}
 use Rattle.faults.specs.declared.LoadFault.TheVariants.{Beyond}
 use Rattle.reader.specs.declared.Reader.{Reader}
 use Rattle.text.proofs.Bodies.{body}
-use Rattle.text.proofs.Joins.{length_put}
+use Rattle.columns.proofs.Filled.{length_put}
 use Rattle.text.proofs.Laid.{laid}
 use Rattle.text.proofs.Rows.{down}
 
@@ -51,7 +51,7 @@ module _ {F V : Type 0} (K : FiniteField V) (value : F → V) where
 
   module _ (text : List ℕ) (r : Reader) (starts : Starts r text) where
     begun : left r ≡ text
-    begun = λ i. drop (starts.at i) (starts.same i)
+    begun = starts.whole
 
     pub first_refuses : (f : LoadFault) → Stops (table_items K) r.position (left r) f → Refuses K text f
     first_refuses f s = in_first (subst (λ l. Stops (table_items K) (record { line = 1; column = 1 }) l f) begun (subst (λ p. Stops (table_items K) p (left r) f) starts.position s))
@@ -71,10 +71,10 @@ module _ {F V : Type 0} (K : FiniteField V) (value : F → V) where
             ∙ ap (λ l. line 84 (n ∷ k ∷ K.q ∷ []) ++ l) (rest.over ∙ ap (λ l. l ++ left t) (sym (body_front n k ys (drop b work) long)))
             ∙ sym (append_assoc (line 84 (n ∷ k ∷ K.q ∷ [])) (body_of K (table_at K value (put_mid 0 b work ys) 0 n k)) (left t))
 
-        pub accepts : length t.text.now ≤ t.at → Accepts K value text (record { states = n; letters = k }) (put_mid 0 b work ys)
-        accepts h = record { sized = limits; is = whole ∙ ap (λ l. text_of K (table_at K value (put_mid 0 b work ys) 0 n k) ++ l) (drop_all t.at t.text.now h) ∙ append-nil _ }
+        pub accepts : left t ≡ [] → Accepts K value text (record { states = n; letters = k }) (put_mid 0 b work ys)
+        accepts h = record { sized = limits; is = whole ∙ ap (λ l. text_of K (table_at K value (put_mid 0 b work ys) 0 n k) ++ l) h ∙ append-nil _ }
 
-        pub past_refuses : t.at < length t.text.now → Refuses K text (Beyond t.position)
+        pub past_refuses : 0 < length (left t) → Refuses K text (Beyond t.position)
         past_refuses h =
-            past (table_at K value (put_mid 0 b work ys) 0 n k) (left t) limits (simp length-drop (omega arith)) whole
+            past (table_at K value (put_mid 0 b work ys) 0 n k) (left t) limits h whole
             (ap Beyond (rest.position ∙ ap (λ p. down p (3 + k * n)) second ∙ (λ i. record { line = (let w : 2 + (3 + k * n) ≡ 5 + k * n = omega arith in w) i; column = 1 })))

@@ -1,8 +1,8 @@
 //! The lines of a table's text, read in place.
-ghost use Rattle.std.specs.Prelude.{◌≡◌, ◌+◌, ◌-◌, ◌*◌, ◌<◌, ◌≤◌, [], ◌∷◌, length, MatchResult};
-ghost use Rattle.columns.specs.Lines.{letter as letter_of, due_letter, row_due, next, numbers, line as line_of};
-ghost use Rattle.reader.specs.Items.{ranged, close, along, after, line_items, Stops};
-ghost use Rattle.reader.specs.Steps.{left, Able, Went};
+ghost use Rattle.std.specs.Prelude.{◌≡◌, ◌+◌, ◌-◌, ◌*◌, ◌<◌, ◌≤◌, [], ◌∷◌, ◌++◌, length, MatchResult};
+ghost use Rattle.columns.specs.Lines.{letter as letter_of, due_letter, row_due, next, numbers, TenDigits, line as line_of};
+ghost use Rattle.reader.specs.Items.{close, along, after, exact_items, line_items, Stops};
+ghost use Rattle.reader.specs.Steps.{left, Able, AtLine, Went};
 ghost use Rattle.text.specs.Texts.{Limits, code_items, table_items};
 ghost use Rattle.text.specs.Rows.{codes_of, row_lines, row_items};
 ghost use Rattle.columns.specs.declared.line.Kind.TheVariants as kind;
@@ -12,6 +12,19 @@ use columns::line::Due;
 use faults::LoadFault;
 use field::Field;
 use reader::Reader;
+
+/// Goes over a number for each of the values, of just that value.
+fn exactly(reader: &mut Reader<'_>, values: &[u64]) -> Result<(), LoadFault>
+    requires able { Able reader.old }
+    requires narrow { reader.old.position.column ≤ 100 }
+    requires few { length values.now ≤ 16 }
+    ensures values_or_stops { MatchResult result (λ _. TenDigits values.now × Went reader.old reader.new (numbers values.now) (along reader.old.position (11 * length values.now))) (λ f. Stops (exact_items values.now) reader.old.position (left reader.old) f) }
+{
+    for value in values {
+        reader.within(*value, *value)?;
+    }
+    Ok(())
+}
 
 /// Goes over a code for each of the elements, which take their values.
 fn codes<F: Field>(reader: &mut Reader<'_>, elements: &mut [F]) -> Result<(), LoadFault>
@@ -26,42 +39,22 @@ fn codes<F: Field>(reader: &mut Reader<'_>, elements: &mut [F]) -> Result<(), Lo
     Ok(())
 }
 
-/// Goes over the line due, of a code for each of the elements, which take their values; `rows` matrix lines follow
-/// it. The line due after it.
+/// Goes over the line due, of the numbers `heads` and then of a code for each of the elements, which take their values;
+/// `rows` matrix lines follow it. The line due after it.
 pub fn codes_line<F: Field>(
     reader: &mut Reader<'_>,
     due: Due,
     rows: usize,
+    heads: &[u64],
     elements: &mut [F],
 ) -> Result<Due, LoadFault>
-    requires able { Able reader.old }
-    requires starts { reader.old.position.column ≡ 1 }
+    requires starts { AtLine reader.old 10000 }
+    requires few_heads { length heads.now ≤ 2 }
     requires few { length elements.old ≤ 16 }
-    ensures line_or_stops { MatchResult result (λ then. Went reader.old reader.new (line_of (due_letter due) (codes_of F.field F.value elements.new)) (after close reader.old.position) × (then ≡ next rows due)) (λ f. Stops (line_items (due_letter due) (code_items F.field (length elements.old))) reader.old.position (left reader.old) f) }
+    ensures line_or_stops { MatchResult result (λ then. Went reader.old reader.new (line_of (due_letter due) (heads.now ++ codes_of F.field F.value elements.new)) (after close reader.old.position) × (then ≡ next rows due)) (λ f. Stops (line_items (due_letter due) (exact_items heads.now ++ code_items F.field (length elements.old))) reader.old.position (left reader.old) f) }
 {
     let then = reader.head(due, rows)?;
-    codes(reader, elements)?;
-    reader.newline()?;
-    Ok(then)
-}
-
-/// The same for the line due with a letter and a row number before the codes.
-fn matrix_line<F: Field>(
-    reader: &mut Reader<'_>,
-    due: Due,
-    rows: usize,
-    letter: u64,
-    row: u64,
-    elements: &mut [F],
-) -> Result<Due, LoadFault>
-    requires able { Able reader.old }
-    requires starts { reader.old.position.column ≡ 1 }
-    requires few { length elements.old ≤ 16 }
-    ensures line_or_stops { MatchResult result (λ then. Went reader.old reader.new (line_of (due_letter due) (letter ∷ row ∷ codes_of F.field F.value elements.new)) (after close reader.old.position) × (then ≡ next rows due)) (λ f. Stops (line_items (due_letter due) (ranged letter letter ∷ ranged row row ∷ code_items F.field (length elements.old))) reader.old.position (left reader.old) f) }
-{
-    let then = reader.head(due, rows)?;
-    reader.within(letter, letter)?;
-    reader.within(row, row)?;
+    exactly(reader, heads)?;
     codes(reader, elements)?;
     reader.newline()?;
     Ok(then)
@@ -69,8 +62,7 @@ fn matrix_line<F: Field>(
 
 /// Goes over the first line: what it says of the table, and the line due after it.
 pub fn table_line<F: Field>(reader: &mut Reader<'_>) -> Result<(Shape, Due), LoadFault>
-    requires able { Able reader.old }
-    requires starts { reader.old.position.column ≡ 1 }
+    requires starts { AtLine reader.old 10000 }
     ensures shape_or_stops { MatchResult result (λ got. Limits got.0.states got.0.letters × Went reader.old reader.new (line_of (letter_of kind.Table) (got.0.states ∷ got.0.letters ∷ F.field.q ∷ [])) (after close reader.old.position) × (got.1 ≡ Due.Start)) (λ f. Stops (table_items F.field) reader.old.position (left reader.old) f) }
 {
     let then = reader.head(Due::Table, 0)?;
@@ -95,9 +87,7 @@ pub fn matrices<F: Field>(
     count: usize,
     elements: &mut [F],
 ) -> Result<Due, LoadFault>
-    requires able { Able reader.old }
-    requires starts { reader.old.position.column ≡ 1 }
-    requires lines { reader.old.position.line < 1000 }
+    requires starts { AtLine reader.old 1000 }
     requires row_due { due ≡ row_due count }
     requires states { n ≤ 16 }
     requires few { count < 1000 }
@@ -106,16 +96,11 @@ pub fn matrices<F: Field>(
     ensures lines_or_stops { MatchResult result (λ then. Went reader.old reader.new (row_lines n (codes_of F.field F.value elements.new) count) (record { line = reader.old.position.line + count; column = 1 }) × (then ≡ Due.End)) (λ f. Stops (row_items F.field n count) reader.old.position (left reader.old) f) }
 {
     let mut then = due;
+    // an index, since after `chunks_exact_mut` nothing is known of the elements
     for j in 0..count {
         let (letter, row) = ((j / n + 1) as u64, (j % n + 1) as u64);
-        then = matrix_line(
-            reader,
-            then,
-            count - j - 1,
-            letter,
-            row,
-            &mut elements[j * n..j * n + n],
-        )?;
+        let elements = &mut elements[j * n..j * n + n];
+        then = codes_line(reader, then, count - j - 1, &[letter, row], elements)?;
     }
     Ok(then)
 }

@@ -4,7 +4,7 @@ ghost use Rattle.series.specs.Tables.{Table};
 ghost use Rattle.rows.specs.Memory.{Frame};
 ghost use Rattle.rows.specs.Layout.{table_size, table_at};
 ghost use Rattle.reader.specs.Items.{Stops};
-ghost use Rattle.reader.specs.Steps.{left, Able, Went};
+ghost use Rattle.reader.specs.Steps.{left, AtLine, Went};
 ghost use Rattle.text.specs.Texts.{Limits, text_of, body_of, body_items};
 ghost use Rattle.text.specs.Readings.{Sized, Accepts, Refuses};
 
@@ -22,9 +22,7 @@ fn body<F: Field>(
     shape: Shape,
     elements: &mut [F],
 ) -> Result<(), LoadFault>
-    requires able { Able reader.old }
-    requires starts { reader.old.position.column ≡ 1 }
-    requires lines { reader.old.position.line < 100 }
+    requires starts { AtLine reader.old 100 }
     requires start_due { due ≡ Due.Start }
     requires limits { Limits shape.states shape.letters }
     requires room { length elements.old ≡ table_size shape.states shape.letters }
@@ -32,10 +30,11 @@ fn body<F: Field>(
 {
     let n = shape.states;
     let count = shape.letters * n;
-    let cells = count * n;
-    let row_due = codes_line(reader, due, count, &mut elements[0..n])?;
-    let end_due = matrices(reader, row_due, n, count, &mut elements[n..n + cells])?;
-    let close_due = codes_line(reader, end_due, 0, &mut elements[n + cells..n + cells + n])?;
+    let (start, rest) = elements.split_at_mut(n);
+    let (rows, end) = rest.split_at_mut(count * n);
+    let row_due = codes_line(reader, due, count, &[], start)?;
+    let end_due = matrices(reader, row_due, n, count, rows)?;
+    let close_due = codes_line(reader, end_due, 0, &[], end)?;
     reader.head(close_due, 0)?;
     reader.newline()?;
     Ok(())

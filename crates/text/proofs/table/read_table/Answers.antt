@@ -3,7 +3,7 @@ use Rattle.std.proofs.lemmas.Result.{err_from_is_err_and}
 use Rattle.rows.specs.Layout.{table_size}
 use Rattle.text.specs.Readings.{Refuses}
 use Rattle.text.proofs.Decides.{decided}
-use Rattle.text.proofs.Joins.{cut_length}
+use Rattle.columns.proofs.Filled.{cut_length}
 use Rattle.text.proofs.Limits.{block_fits}
 use Rattle.text.proofs.Verdicts.{frame_none, frame_front, first_refuses, body_refuses, accepts, past_refuses}
 use Rattle.text.proofs.table.read_table.Goals as goal
