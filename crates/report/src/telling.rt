@@ -7,7 +7,7 @@ ghost use Rattle.report.specs.Findings.{AtFront, Fits, TenDigits, finding_line, 
 use crate::finding::{Rejection, find};
 use crate::line::put_line;
 use book::refusal::Refusal;
-use book::verdict::Verdict;
+use book::verdict::{Kind, Verdict};
 use field::Field;
 
 /// The longest line: a first byte, four numbers, 31 letters and byte 10.
@@ -51,13 +51,16 @@ fn put_verdict(out: &mut [u8], verdict: &Verdict) -> usize
     ensures at_most { result ≤ 387 }
 {
     // `as`, since no `From` leads from usize to u64.
-    if verdict.kind == 0 {
-        let values = [verdict.tried as u64, verdict.kept as u64];
-        put_in_front(out, b'Q', &values, b"")
-    } else {
-        let (left, right) = (verdict.first, verdict.second);
-        let values = [verdict.tried as u64, verdict.length as u64, left, right];
-        put_in_front(out, b'D', &values, &verdict.letters[..verdict.length])
+    match verdict.kind {
+        Kind::Alike => {
+            let values = [verdict.tried as u64, verdict.kept as u64];
+            put_in_front(out, b'Q', &values, b"")
+        }
+        Kind::Differs => {
+            let (left, right) = (verdict.first, verdict.second);
+            let values = [verdict.tried as u64, verdict.length as u64, left, right];
+            put_in_front(out, b'D', &values, &verdict.letters[..verdict.length])
+        }
     }
 }
 

@@ -59,7 +59,7 @@ pub enum Action {
 
 impl Action {
     /// The call on a shelf.
-    pub fn call(&self) -> Call<'_>
+    pub fn call(&self) -> Call<&[u8]>
         ensures told { call_of result ≡ call_by self.now }
     {
         match self {

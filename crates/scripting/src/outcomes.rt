@@ -1,14 +1,14 @@
 //! Outcomes of calls, shown for a person.
 use book::outcome::{Answer, Outcome};
 use book::refusal::Refusal;
-use book::verdict::Verdict;
+use book::verdict::{Kind, Verdict};
 use command::reasons::reason;
 use std::fmt;
 
 // What compare found.
 fn show_verdict<W: fmt::Write>(verdict: &Verdict, f: &mut fmt::Formatter<W>) -> fmt::Result {
     let tried = verdict.tried;
-    if verdict.kind == 0 {
+    if verdict.kind == Kind::Alike {
         let kept = verdict.kept;
         return write!(f, "alike, {tried} tried, {kept} kept");
     }
@@ -58,8 +58,8 @@ pub struct Shown {
 impl fmt::Display for Shown {
     fn fmt<W: fmt::Write>(&self, f: &mut fmt::Formatter<W>) -> fmt::Result {
         match &self.outcome {
-            Outcome::Accepted(answer) => show_answer(answer, f),
-            Outcome::Refused(refusal) => show_refusal(refusal, f),
+            Ok(answer) => show_answer(answer, f),
+            Err(refusal) => show_refusal(refusal, f),
         }
     }
 }

@@ -41,7 +41,7 @@ pub fn make<F: Field>(
     shelf: &mut [F],
     work: &mut [F],
     output: &mut [u8],
-    call: Call<'_>,
+    call: Call<&[u8]>,
     given: Given,
 ) -> Outcome
     ensures runs { Makes F.field F.value (state directory.old.entries shelf.old (length work.old) output.old unwritten) (record { call = call.entry; work = given.work; output = given.output }) result (shelf_of directory.new.entries shelf.new) output.new }
@@ -52,7 +52,7 @@ pub fn make<F: Field>(
         work: given.work,
         output: given.output,
     };
-    let mut outcomes = [Outcome::Refused(Refusal::PlaceOutside); 1];
+    let mut outcomes = [Err(Refusal::PlaceOutside); 1];
     directory.perform(
         shelf,
         work,
@@ -77,7 +77,7 @@ fn show(
     let told = Shown { outcome };
     let line = format!(in heap; "{number} {call}: {told}\n")?;
     shown.extend_from_slice(line.as_bytes())?;
-    if let Outcome::Accepted(Answer::Count(count)) = outcome {
+    if let Ok(Answer::Count(count)) = outcome {
         shown.extend_from_slice(&output[0..count.min(output.len())])?;
     }
     Ok(())
