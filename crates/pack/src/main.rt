@@ -6,7 +6,7 @@ use book::refusal::Refusal;
 use book::verdict::Kind;
 use byte::Byte;
 use command::VERSION;
-use command::files::{MOST, read_file};
+use command::files::read_file;
 use command::offered::Offered;
 use command::reasons::reason;
 use command::wish::{Wish, asked_for, name_or};
@@ -104,16 +104,15 @@ fn pack_fermat(rt: &HostRuntime, text: &[u8], files: &[String]) -> anyhow::Resul
 
 // Reads the text, and packs it over the field that is named, in the command line or else in the text.
 fn work(rt: &HostRuntime, field: Option<Offered>, files: &[String]) -> anyhow::Result<()> {
-    let mut buffer = [0u8; MOST];
     let name = name_or(files, 0, "table");
-    let count = match read_file(rt, name, &mut buffer) {
-        Ok(count) => count,
+    let text = match read_file(rt, name) {
+        Ok(text) => text,
         Err(e) => {
             eprintln!(rt; "{name}: {e}")?;
             return Err(anyhow!("the file cannot be read"));
         }
     };
-    let text = &buffer[0..count];
+    let text = text.as_slice();
     let told = Offered::named_in(text).unwrap_or(Offered::Fermat);
     match field.unwrap_or(told) {
         Offered::Bits => pack_bits(rt, text, files),

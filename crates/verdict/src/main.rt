@@ -1,7 +1,7 @@
 //! Compares two tables: reads their texts, and writes the line that reports on them.
 #![tactic(auto)]
 
-ghost use Rattle.std.specs.Prelude.{◌≤◌, length, IfOk};
+ghost use Rattle.std.specs.Prelude.{◌≤◌, IfOk, vec_len};
 
 use anyhow::anyhow;
 use command::VERSION;
@@ -43,11 +43,11 @@ fn report_over(field: Offered, first: &[u8], second: &[u8], line: &mut [u8]) -> 
 }
 
 // Reads a file; one that is there and cannot be read is told.
-fn read(rt: &HostRuntime, name: &str, buffer: &mut [u8]) -> anyhow::Result<usize>
-    ensures within { IfOk result (λ n. n ≤ length buffer.old) }
+fn read(rt: &HostRuntime, name: &str) -> anyhow::Result<Vec<u8>>
+    ensures within { IfOk result (λ v. vec_len v ≤ MOST) }
 {
-    match read_if_there(rt, name, buffer) {
-        Ok(count) => Ok(count),
+    match read_if_there(rt, name) {
+        Ok(text) => Ok(text),
         Err(e) => {
             eprintln!(rt; "{name}: {e}")?;
             Err(anyhow!("a file cannot be read"))
@@ -57,12 +57,10 @@ fn read(rt: &HostRuntime, name: &str, buffer: &mut [u8]) -> anyhow::Result<usize
 
 // Reads both texts, and writes the line.
 fn work(rt: &HostRuntime, field: Offered, files: &[String]) -> anyhow::Result<()> {
-    let mut first = [0u8; MOST];
-    let n = read(rt, name_or(files, 0, "first"), &mut first)?;
-    let mut second = [0u8; MOST];
-    let m = read(rt, name_or(files, 1, "second"), &mut second)?;
+    let first = read(rt, name_or(files, 0, "first"))?;
+    let second = read(rt, name_or(files, 1, "second"))?;
     let mut line = [0u8; 387];
-    let count = report_over(field, &first[0..n], &second[0..m], &mut line);
+    let count = report_over(field, first.as_slice(), second.as_slice(), &mut line);
     rt.stdout().write_all(&line[0..count])?;
     Ok(())
 }
