@@ -1,5 +1,5 @@
 //! Files, read up to a bound.
-ghost use Rattle.std.specs.Prelude.{◌≤◌, length, IfOk};
+ghost use Rattle.std.specs.Prelude.{◌≤◌, vec_len, IfOk};
 
 use std::fs::File;
 use std::io;
@@ -9,41 +9,25 @@ use std::io::{ErrorKind, Read};
 /// that are seen and refused.
 pub const MOST: usize = 19594;
 
-// Reads from a file until the buffer is full or the file ends: how many bytes came.
-fn fill(file: &mut File, buffer: &mut [u8]) -> io::Result<usize>
-    ensures within { IfOk result (λ n. n ≤ length buffer.old) }
+/// What a file holds, up to its first `MOST` bytes.
+pub fn read_file(rt: &HostRuntime, name: &str) -> io::Result<Vec<u8>>
+    ensures within { IfOk result (λ v. vec_len v ≤ MOST) }
 {
-    let mut have = 0;
-    while have < buffer.len() {
-        let n = file.read(&mut buffer[have..])?;
-        if n == 0 {
-            break;
-        }
-        have += n;
-    }
-    Ok(have)
-}
-
-/// What a file holds, up to the buffer's length: how many bytes.
-pub fn read_file(rt: &HostRuntime, name: &str, buffer: &mut [u8]) -> io::Result<usize>
-    ensures within { IfOk result (λ n. n ≤ length buffer.old) }
-{
-    let mut file = File::open(rt, name)?;
-    fill(&mut file, buffer)
+    let mut text = Vec::new(rt.alloc());
+    File::open(rt, name)?
+        .take(MOST as u64)
+        .read_to_end(&mut text)?;
+    // No more came; std promises that only of a reader whose bytes are known.
+    text.truncate(MOST);
+    Ok(text)
 }
 
 /// The same, where a missing file counts as empty.
-pub fn read_if_there(rt: &HostRuntime, name: &str, buffer: &mut [u8]) -> io::Result<usize>
-    ensures within { IfOk result (λ n. n ≤ length buffer.old) }
+pub fn read_if_there(rt: &HostRuntime, name: &str) -> io::Result<Vec<u8>>
+    ensures within { IfOk result (λ v. vec_len v ≤ MOST) }
 {
-    match read_file(rt, name, buffer) {
-        Ok(n) => Ok(n),
-        Err(e) => {
-            if e.kind() == ErrorKind::NotFound {
-                Ok(0)
-            } else {
-                Err(e)
-            }
-        }
+    match read_file(rt, name) {
+        Err(e) if e.kind() == ErrorKind::NotFound => Ok(Vec::new(rt.alloc())),
+        read => read,
     }
 }
