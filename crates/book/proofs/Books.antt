@@ -1,5 +1,5 @@
 -- What a call does, and what the book hears of it. Assumes nothing.
-use Rattle.std.proofs.Common.{◌≡◌, ℕ, ◌≤◌, List, [], ◌∷◌, ◌++◌, reverse, length, sym, refl, ap, ◌∙◌, subst, ap₂, inl, inr, arith}
+use Rattle.std.proofs.Common.{◌≡◌, ℕ, ◌≤◌, List, [], ◌∷◌, ◌++◌, reverse, length, sym, refl, ap, ◌∙◌, subst, ap₂, inl, inr, arith, Ok, Err}
 use Rattle.field.specs.FiniteField.{FiniteField}
 use Rattle.series.specs.Words.{Word, Over}
 use Rattle.series.specs.Tables.{Table, weight, SameTable}
@@ -21,8 +21,7 @@ use Rattle.book.specs.Doing.{Makes, Empties, Leaves, Does}
 use Rattle.book.specs.Using.{Page, blank, holds, letters_on, weights_on, page, Enters, Hears, Fed}
 use Rattle.book.specs.Law.{Changes}
 use Rattle.book.specs.declared.outcome.Answer.{Answer}
-use Rattle.book.specs.declared.outcome.Outcome.{Outcome}
-use Rattle.book.specs.declared.outcome.Outcome.TheVariants.{Accepted, Refused}
+use Rattle.book.specs.Outcomes.{Outcome}
 use Rattle.book.proofs.Accepting.{placed, full, sum_alike, multiply_alike, sum_few, multiply_few, after_over}
 use Rattle.book.proofs.Standing.{Stands, Source, source}
 
@@ -99,8 +98,8 @@ module _ {V : Type 0} (K : FiniteField V) {F : Type 0} (value : F → V) (told_a
 
     -- what a call did, and what the book heard of it
     pub heard : (B' : List (Page V)) (c : Call) (o : Outcome) → Does K value s c o t → Hears K B c o B' → InStep K value s t B B' (Changes c o)
-    heard B' c (Refused r) d e = rests (ap (λ z. z.shelf) d.1) e
-    heard B' c (Accepted a) d e = accepted B' c a d.0 d.1 e
+    heard B' c (Err r) d e = rests (ap (λ z. z.shelf) d.1) e
+    heard B' c (Ok a) d e = accepted B' c a d.0 d.1 e
 
 module _ {V : Type 0} (K : FiniteField V) {F : Type 0} (value : F → V) where
   -- what is done can be entered
@@ -118,8 +117,8 @@ module _ {V : Type 0} (K : FiniteField V) {F : Type 0} (value : F → V) where
   enters_some s t B (clear p) a x = (with_place B p blank, refl)
 
   pub hears_some : (s t : State F) (B : List (Page V)) (c : Call) (o : Outcome) → Does K value s c o t → (B' : List (Page V)) × Hears K B c o B'
-  hears_some s t B c (Refused r) d = (B, refl)
-  hears_some s t B c (Accepted a) d = enters_some s t B c a d.1
+  hears_some s t B c (Err r) d = (B, refl)
+  hears_some s t B c (Ok a) d = enters_some s t B c a d.1
 
 -- the book of one call more
 module _ {V : Type 0} (K : FiniteField V) where

@@ -1,5 +1,5 @@
 -- Uses follow the book. Assumes nothing.
-use Rattle.std.proofs.Common.{◌≡◌, ℕ, ◌+◌, ◌-◌, ◌<◌, ◌≤◌, List, [], ◌∷◌, ◌++◌, length, take, replicate, sym, refl, ap, ◌∙◌, subst, ap₂, inl, inr, arith}
+use Rattle.std.proofs.Common.{◌≡◌, ℕ, ◌+◌, ◌-◌, ◌<◌, ◌≤◌, List, [], ◌∷◌, ◌++◌, length, take, replicate, sym, refl, ap, ◌∙◌, subst, ap₂, inl, inr, arith, Ok}
 use Rattle.std.proofs.lemmas.List.{take_at, take-append-drop}
 use Rattle.field.specs.FiniteField.{FiniteField}
 use Rattle.series.specs.Words.{Word, Over}
@@ -20,8 +20,7 @@ use Rattle.book.specs.Running.{taken_back}
 use Rattle.book.specs.Law.{SamePage, Matches, Reports, Reduces, Follows, UsesFollowTheBook}
 use Rattle.book.specs.declared.verdict.Verdict.{Verdict}
 use Rattle.book.specs.declared.outcome.Answer.TheVariants.{Code, Told}
-use Rattle.book.specs.declared.outcome.Outcome.{Outcome}
-use Rattle.book.specs.declared.outcome.Outcome.TheVariants.{Accepted}
+use Rattle.book.specs.Outcomes.{Outcome}
 use Rattle.book.proofs.Places.{at_same}
 use Rattle.book.proofs.Blocks.{same_sym, same_trans}
 use Rattle.book.proofs.Accepting.{placed, full, weigh_over}
@@ -97,8 +96,8 @@ module _ {V : Type 0} (K : FiniteField V) {F : Type 0} (value : F → V) (told_a
       made = subst (λ e. SameTable (table_at K value r.left.shelf.memory (begins r.to) (states_of e) (letters_of e)) R₀) (sym here) makes.numbers.same
 
       stays : Stays K value r.to r.left.shelf r.there
-      stays = untouched_stays K value told_apart r.to r.left.shelf r.there r.since (r.cs ++ reduce r.place r.to ∷ []) (r.os ++ Accepted r.answer ∷ [])
-          (record { first = r.use_of.first; opened = r.use_of.opened; uses = next r.use_of.uses r.lent (reduce r.place r.to) (Accepted r.answer) r.left r.does })
+      stays = untouched_stays K value told_apart r.to r.left.shelf r.there r.since (r.cs ++ reduce r.place r.to ∷ []) (r.os ++ Ok r.answer ∷ [])
+          (record { first = r.use_of.first; opened = r.use_of.opened; uses = next r.use_of.uses r.lent (reduce r.place r.to) (Ok r.answer) r.left r.does })
 
   form_letters : (R : Table V) (c : Form R) → R.letters ≡ c.k
   form_letters R c = c.same.letters ∙ c.form.letters

@@ -1,5 +1,5 @@
 -- What comes of a call is settled, and of a list of calls. Assumes nothing.
-use Rattle.std.proofs.Common.{◌≡◌, ℕ, ◌+◌, ◌<◌, min, List, [], ◌∷◌, ◌++◌, length, get_or, take, drop, sym, refl, ap, ◌∙◌, subst, ap₂, subst₂, inl, inr, arith, length-append}
+use Rattle.std.proofs.Common.{◌≡◌, ℕ, ◌+◌, ◌<◌, min, List, [], ◌∷◌, ◌++◌, length, get_or, take, drop, sym, refl, ap, ◌∙◌, subst, ap₂, subst₂, inl, inr, arith, length-append, Ok, Err}
 use native.Mathlib.Decide.{dec_lt}
 use Rattle.field.specs.FiniteField.{FiniteField}
 use Rattle.series.specs.Tables.{Table, weight, SameTable}
@@ -20,8 +20,7 @@ use Rattle.book.specs.declared.call.Request.{Request}
 use Rattle.book.specs.declared.refusal.Refusal.{Refusal}
 use Rattle.book.specs.declared.outcome.Answer.{Answer}
 use Rattle.book.specs.declared.outcome.Answer.TheVariants.{Code, Told, Count}
-use Rattle.book.specs.declared.outcome.Outcome.{Outcome}
-use Rattle.book.specs.declared.outcome.Outcome.TheVariants.{Accepted, Refused}
+use Rattle.book.specs.Outcomes.{Outcome}
 use Rattle.book.proofs.Places.{at_same}
 use Rattle.book.proofs.Accepting.{placed}
 use Rattle.book.proofs.SameStates.{same_equal, state_sym, table_equal, lends_same, empties_same, makes_same}
@@ -61,10 +60,10 @@ module _ {V : Type 0} (K : FiniteField V) {F : Type 0} (value : F → V) (told_a
     refuses_same c r h = record { meets = meets_same K value s' s (state_sym K value s s' e) c r h.meets; first = λ o m. h.first o (meets_same K value s s' e c o m) }
 
     pub one : (c : Call) (o o' : Outcome) → Does K value s c o t → Does K value s' c o' t' → (o ≡ o') × SameState K value t t'
-    one c (Refused q) (Refused r) (x, d) (y, g) = (ap Refused (refuses_one K decided s c q r x (refuses_same c r y)), subst₂ (SameState K value) (sym d) (sym g) e)
-    one c (Refused q) (Accepted b) (x, d) (y, g) = absurd (y q (meets_same K value s s' e c q x.meets))
-    one c (Accepted a) (Refused r) (x, d) (y, g) = absurd (x r (refuses_same c r y).meets)
-    one c (Accepted a) (Accepted b) (x, d) (y, g) = let r = accepted c a b d g in (ap Accepted r.0, r.1)
+    one c (Err q) (Err r) (x, d) (y, g) = (ap Err (refuses_one K decided s c q r x (refuses_same c r y)), subst₂ (SameState K value) (sym d) (sym g) e)
+    one c (Err q) (Ok b) (x, d) (y, g) = absurd (y q (meets_same K value s s' e c q x.meets))
+    one c (Ok a) (Err r) (x, d) (y, g) = absurd (x r (refuses_same c r y).meets)
+    one c (Ok a) (Ok b) (x, d) (y, g) = let r = accepted c a b d g in (ap Ok r.0, r.1)
 
   state_refl : (s : State F) → SameState K value s s
   state_refl s = record { entries = refl; length_same = refl; numbers = λ i. refl; lent = refl }
@@ -96,8 +95,8 @@ module _ {V : Type 0} (K : FiniteField V) {F : Type 0} (value : F → V) (told_a
     leaves_outside (clear p) a acc (d, m) u = ap (λ z. get_or z i x) m.memory
 
     does_outside : (c : Call) (o : Outcome) → Does K value s c o t → ¬ (InResult c t i) → get_or t.shelf.memory i x ≡ get_or s.shelf.memory i x
-    does_outside c (Refused r) d u = ap (λ z. get_or z.shelf.memory i x) d.1
-    does_outside c (Accepted a) d u = leaves_outside c a d.0 d.1 u
+    does_outside c (Err r) d u = ap (λ z. get_or z.shelf.memory i x) d.1
+    does_outside c (Ok a) d u = leaves_outside c a d.0 d.1 u
 
   others : (s t t' : State F) (c : Call) (o o' : Outcome) → length s.shelf.entries ≡ 8 → Does K value s c o t → Does K value s c o' t' → (i : ℕ) (x : F) → ¬ (InResult c t i) → get_or t.shelf.memory i x ≡ get_or t'.shelf.memory i x
   others s t t' c o o' eight d g i x u = does_outside s t eight i x c o d u ∙ sym (does_outside s t' eight i x c o' g (λ h. u (back h)))

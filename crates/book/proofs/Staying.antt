@@ -14,7 +14,7 @@ use Rattle.book.specs.Calls.{Call}
 use Rattle.book.specs.Doing.{Does}
 use Rattle.book.specs.Using.{lending, Use, none, next, Opening, Page, blank, holds, page}
 use Rattle.book.specs.Law.{Changes, Untouched, still, later}
-use Rattle.book.specs.declared.outcome.Outcome.{Outcome}
+use Rattle.book.specs.Outcomes.{Outcome}
 use Rattle.book.proofs.Places.{place?, at_other, at_outside, apart}
 use Rattle.book.proofs.Blocks.{fits, same_by_values}
 use Rattle.book.proofs.Standing.{Good, Stands, anywhere}

@@ -12,7 +12,7 @@ use Rattle.book.specs.Running as run
 use Rattle.book.specs.Running.{given, call_in, Run}
 use Rattle.book.specs.Law.{Changes}
 use Rattle.book.specs.declared.call.Request.{Request}
-use Rattle.book.specs.declared.outcome.Outcome.{Outcome}
+use Rattle.book.specs.Outcomes.{Outcome}
 use Rattle.book.proofs.Standing.{Good, Stands, made, cleared}
 use Rattle.book.proofs.Books.{InStep, makes, empties, rests, heard, hears_some, fed_last, fed_next}
 

@@ -1,6 +1,7 @@
 -- The calls, and which places they name. Assumes nothing.
 use Rattle.std.specs.Prelude.{◌≡◌, ℕ, ◌⊎◌, List, [], ◌∷◌}
 use Rattle.series.specs.Words.{Word}
+use Rattle.std.specs.Borrow.{Bor}
 use Rattle.book.specs.declared.call.Call.{Call as CallCode}
 use Rattle.book.specs.declared.call.Call.TheVariants.{Load, Sum, Scale, Multiply, After, Turn, Reduce, Weigh, Compare, Write, Clear}
 
@@ -18,19 +19,23 @@ pub data Call : Type 0 where
   write : (place : ℕ) → Call
   clear : (place : ℕ) → Call
 
--- the call that a value of the code's type tells
-abbrev pub call_of : CallCode → Call
-call_of (Load text to) = load text.now to
-call_of (Sum p q to) = sum p q to
-call_of (Scale p c to) = scale p c to
-call_of (Multiply p q to) = multiply p q to
-call_of (After p a to) = after p a to
-call_of (Turn p to) = turn p to
-call_of (Reduce p to) = reduce p to
-call_of (Weigh p w) = weigh p w.now
-call_of (Compare p q) = compare p q
-call_of (Write p) = write p
-call_of (Clear p) = clear p
+-- the call that a value of the code's type tells, where `bytes` says what its text or word is
+abbrev pub call_by : {B : Type 0} → (B → List ℕ) → CallCode B → Call
+call_by bytes (Load text to) = load (bytes text) to
+call_by bytes (Sum p q to) = sum p q to
+call_by bytes (Scale p c to) = scale p c to
+call_by bytes (Multiply p q to) = multiply p q to
+call_by bytes (After p a to) = after p a to
+call_by bytes (Turn p to) = turn p to
+call_by bytes (Reduce p to) = reduce p to
+call_by bytes (Weigh p w) = weigh p (bytes w)
+call_by bytes (Compare p q) = compare p q
+call_by bytes (Write p) = write p
+call_by bytes (Clear p) = clear p
+
+-- the call whose text or word is lent
+abbrev pub call_of : CallCode (Bor (List ℕ)) → Call
+call_of c = call_by (λ b. b.now) c
 
 -- the places that a call reads or clears
 abbrev pub sources : Call → List ℕ

@@ -1,5 +1,5 @@
 -- What a call does. Assumes nothing.
-use Rattle.std.specs.Prelude.{◌≡◌, ℕ, List, ◌++◌, length, drop}
+use Rattle.std.specs.Prelude.{◌≡◌, ℕ, List, ◌++◌, length, drop, Ok, Err}
 use Rattle.field.specs.FiniteField.{FiniteField}
 use Rattle.series.specs.Tables.{Table, weight}
 use Rattle.series.specs.Operations.{sum_table, scaled_table, product_table, after_table, turned_table}
@@ -14,8 +14,7 @@ use Rattle.book.specs.Verdicts.{Says}
 use Rattle.book.specs.declared.verdict.Verdict.{Verdict}
 use Rattle.book.specs.declared.outcome.Answer.{Answer}
 use Rattle.book.specs.declared.outcome.Answer.TheVariants.{Done, Code, Told, Count}
-use Rattle.book.specs.declared.outcome.Outcome.{Outcome}
-use Rattle.book.specs.declared.outcome.Outcome.TheVariants.{Accepted, Refused}
+use Rattle.book.specs.Outcomes.{Outcome}
 
 -- the lent memory with this verdict
 abbrev pub with_verdict : Lent → Verdict → Lent
@@ -63,5 +62,5 @@ module _ {V : Type 0} (K : FiniteField V) {F : Type 0} (value : F → V) where
 
   -- a call is refused under the stated conditions, and then leaves all as it was, and otherwise does what is defined for it
   abbrev pub Does : State F → Call → Outcome → State F → Type 0
-  Does s c (Refused r) t = Refuses K s c r × (t ≡ s)
-  Does s c (Accepted a) t = Accepts K s c × Leaves s c a t
+  Does s c (Err r) t = Refuses K s c r × (t ≡ s)
+  Does s c (Ok a) t = Accepts K s c × Leaves s c a t

@@ -1,6 +1,6 @@
 -- The law that every use follows. What it turns on, the bound on a reported word and how few states reduce leaves, are arguments, which the contract that
 -- promises the law gives. Assumes nothing.
-use Rattle.std.specs.Prelude.{◌≡◌, ℕ, ◌+◌, ◌<◌, ◌≤◌, ◌≢◌, ◌⊎◌, ◌↔◌, List, map, length, slice_index_or}
+use Rattle.std.specs.Prelude.{◌≡◌, ℕ, ◌+◌, ◌<◌, ◌≤◌, ◌≢◌, ◌⊎◌, ◌↔◌, List, map, length, slice_index_or, Ok, Err}
 use Rattle.field.specs.FiniteField.{FiniteField}
 use Rattle.series.specs.Words.{Word, Over}
 use Rattle.series.specs.Tables.{Table, weight, SameTable}
@@ -8,7 +8,7 @@ use Rattle.series.specs.Comparing.{Alike, LeastDifference}
 use Rattle.rows.specs.Layout.{table_size}
 use Rattle.book.specs.Shelves.{Entry, empty, filled, Shelf, Lent, State, Opened, InRange, entry, states_of, letters_of, begins, table}
 use Rattle.book.specs.Calls.{Call, reduce, weigh, compare, Among, results}
-use Rattle.book.specs.Verdicts.{reported}
+use Rattle.book.specs.Verdicts.{kind_number, reported}
 use Rattle.book.specs.Doing.{Does}
 use Rattle.book.specs.Using.{lending, CallAt, Opening, Page, blank, holds, weights_on, page, Book}
 use Rattle.book.specs.Running.{call_in, given, taken_back, Run}
@@ -17,8 +17,7 @@ use Rattle.book.specs.declared.refusal.Refusal.{Refusal}
 use Rattle.book.specs.declared.verdict.Verdict.{Verdict}
 use Rattle.book.specs.declared.outcome.Answer.{Answer}
 use Rattle.book.specs.declared.outcome.Answer.TheVariants.{Code, Told}
-use Rattle.book.specs.declared.outcome.Outcome.{Outcome}
-use Rattle.book.specs.declared.outcome.Outcome.TheVariants.{Accepted, Refused}
+use Rattle.book.specs.Outcomes.{Outcome}
 
 -- two pages with one letter count and one weight for every word over those letters, or both blank
 abbrev pub SamePage : {V : Type 0} → Page V → Page V → Type 0
@@ -29,8 +28,8 @@ SamePage (holds k f) (holds j g) = (k ≡ j) × ((w : Word) → Over k w → f w
 
 -- the call makes or clears the place; a refused one makes and clears none
 abbrev pub Changes : Call → Outcome → ℕ → Type 0
-Changes c (Refused r) p = ⊥
-Changes c (Accepted a) p = Among (results c) p
+Changes c (Err r) p = ⊥
+Changes c (Ok a) p = Among (results c) p
 
 module _ {V : Type 0} (K : FiniteField V) where
   -- the entry is filled exactly where the page is, and then the table has the page's letter count and, for every word, the page's weight
@@ -43,12 +42,12 @@ module _ {V : Type 0} (K : FiniteField V) where
   -- what a verdict reports of two tables
   pub record Reports (bound : ℕ → ℕ → ℕ) (S T : Table V) (v : Verdict) : Type 0 where
     -- kind 1 reports a word, and kind 0 none
-    pub kinds : (v.kind ≡ 0) ⊎ (v.kind ≡ 1)
+    pub kinds : (kind_number v.kind ≡ 0) ⊎ (kind_number v.kind ≡ 1)
     -- a word exactly when some word weighs differently under the two
-    pub exactly : (v.kind ≡ 1) ↔ ((w : Word) × Over S.letters w × (weight K S w ≢ weight K T w))
+    pub exactly : (kind_number v.kind ≡ 1) ↔ ((w : Word) × Over S.letters w × (weight K S w ≢ weight K T w))
     -- the least such word in shortlex order, with fewer letters than the bound that the two state counts give
-    pub least : v.kind ≡ 1 → LeastDifference K S T (reported v)
-    pub short : v.kind ≡ 1 → length (reported v) < bound S.states T.states
+    pub least : kind_number v.kind ≡ 1 → LeastDifference K S T (reported v)
+    pub short : kind_number v.kind ≡ 1 → length (reported v) < bound S.states T.states
 
 module _ {V : Type 0} (K : FiniteField V) {F : Type 0} (value : F → V) where
   -- s leads to t by calls of which none makes or clears the place p
@@ -69,7 +68,7 @@ module _ {V : Type 0} (K : FiniteField V) {F : Type 0} (value : F → V) where
     pub to : ℕ
     pub answer : Answer
     pub left : State F
-    pub does : Does K value (lending before lent) (reduce place to) (Accepted answer) left
+    pub does : Does K value (lending before lent) (reduce place to) (Ok answer) left
     -- and since then the place was neither made nor cleared
     pub there : Shelf F
     pub since : Untouched to left.shelf there
@@ -89,9 +88,9 @@ module _ {V : Type 0} (K : FiniteField V) {F : Type 0} (value : F → V) where
     -- a) tables lie exactly where the book is filled, with its letter counts and, for every word, its weight
     pub tables : (B : List (Page V)) → Book K cs os B → (p : ℕ) → Matches K (entry s p) (page K B p) (table K value s p)
     -- and an accepted weigh answers the code of its word's weight in the book
-    pub weighs : (B : List (Page V)) → Book K cs os B → (l : Lent) (p : ℕ) (w : Word) (a : Answer) (t : State F) → Does K value (lending s l) (weigh p w) (Accepted a) t → a ≡ Code (K.code (weights_on K (page K B p) w))
+    pub weighs : (B : List (Page V)) → Book K cs os B → (l : Lent) (p : ℕ) (w : Word) (a : Answer) (t : State F) → Does K value (lending s l) (weigh p w) (Ok a) t → a ≡ Code (K.code (weights_on K (page K B p) w))
     -- b) an accepted compare reports a word exactly when some word weighs differently under its two tables, and then the least
-    pub compares : (l : Lent) (p q : ℕ) (a : Answer) (t : State F) → Does K value (lending s l) (compare p q) (Accepted a) t → (a ≡ Told t.lent.verdict) × Reports K bound (table K value s p) (table K value s q) t.lent.verdict
+    pub compares : (l : Lent) (p q : ℕ) (a : Answer) (t : State F) → Does K value (lending s l) (compare p q) (Ok a) t → (a ≡ Told t.lent.verdict) × Reports K bound (table K value s p) (table K value s q) t.lent.verdict
     -- what lies at a place lies there, the very elements, until the place is made or cleared anew
     pub lies_on : (p : ℕ) (t : Shelf F) → Untouched p s t
         → (entry t p ≡ entry s p) × ((i : ℕ) (x : F) → begins p ≤ i → i < begins p + table_size (states_of (entry s p)) (letters_of (entry s p)) → slice_index_or t.memory i x ≡ slice_index_or s.memory i x)
@@ -106,7 +105,7 @@ module _ {V : Type 0} (K : FiniteField V) {F : Type 0} (value : F → V) where
     -- requested calls, made one after another from open, are a use
     pub runs : (first t : State F) (rs : List Request) (os : List Outcome) → Opened first.shelf → Run K value first rs os t → Opening K value (map call_in rs) os t.shelf
     -- and one that is refused leaves all that was lent as it was
-    pub refused_leaves : (s t : State F) (r : Request) (f : Refusal) → Does K value (given s r) (call_in r) (Refused f) t → taken_back s r t ≡ s
+    pub refused_leaves : (s t : State F) (r : Request) (f : Refusal) → Does K value (given s r) (call_in r) (Err f) t → taken_back s r t ≡ s
     -- c) every other table with the letter count and the weights of one that reduce left has at least as many states
     pub fewest : (R : Table V) → Reduces R → (T : Table V) → T.letters ≡ R.letters → Alike K R T → Fewest R.states T.states
     -- two such with one letter count, also from two uses, agree number for number exactly when they weigh every word alike

@@ -1,6 +1,8 @@
 pub mod Refusals
 pub mod Shelves
 pub mod Calls
+pub mod Outcomes
+pub mod Reasons
 pub mod Refusing
 pub mod Verdicts
 pub mod Doing

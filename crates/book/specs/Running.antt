@@ -5,7 +5,7 @@ use Rattle.book.specs.Shelves.{State}
 use Rattle.book.specs.Calls.{Call, call_of}
 use Rattle.book.specs.Doing.{Does}
 use Rattle.book.specs.declared.call.Request.{Request}
-use Rattle.book.specs.declared.outcome.Outcome.{Outcome}
+use Rattle.book.specs.Outcomes.{Outcome}
 
 -- the call that is requested
 abbrev pub call_in : Request → Call

@@ -8,7 +8,7 @@ use Rattle.book.specs.Calls.{Call, Among, results}
 use Rattle.book.specs.Doing.{Does}
 use Rattle.book.specs.Running.{Run}
 use Rattle.book.specs.declared.call.Request.{Request}
-use Rattle.book.specs.declared.outcome.Outcome.{Outcome}
+use Rattle.book.specs.Outcomes.{Outcome}
 
 -- element i is one of the table that the call left at its result place
 abbrev pub InResult : {F : Type 0} → Call → State F → ℕ → Type 0

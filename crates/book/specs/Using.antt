@@ -1,5 +1,5 @@
 -- Uses of a shelf, and their book. Assumes nothing.
-use Rattle.std.specs.Prelude.{◌≡◌, ℕ, suc, List, [], ◌∷◌, ◌++◌, reverse, take, replicate, slice_index_or}
+use Rattle.std.specs.Prelude.{◌≡◌, ℕ, suc, List, [], ◌∷◌, ◌++◌, reverse, take, replicate, slice_index_or, Ok, Err}
 use Rattle.field.specs.FiniteField.{FiniteField}
 use Rattle.series.specs.Words.{Word}
 use Rattle.series.specs.Tables.{Table, weight}
@@ -8,8 +8,7 @@ use Rattle.text.specs.Readings.{Sized}
 use Rattle.book.specs.Shelves.{Shelf, Lent, State, Opened, at_place, with_place}
 use Rattle.book.specs.Calls.{Call, load, sum, scale, multiply, after, turn, reduce, weigh, compare, write, clear}
 use Rattle.book.specs.Doing.{Does}
-use Rattle.book.specs.declared.outcome.Outcome.{Outcome}
-use Rattle.book.specs.declared.outcome.Outcome.TheVariants.{Accepted, Refused}
+use Rattle.book.specs.Outcomes.{Outcome}
 
 -- a shelf in a call that is lent this
 abbrev pub lending : {F : Type 0} → Shelf F → Lent → State F
@@ -72,8 +71,8 @@ module _ {V : Type 0} (K : FiniteField V) where
 
   -- the book hears a call and whether it was accepted; a refused one leaves it as it is
   abbrev pub Hears : List (Page V) → Call → Outcome → List (Page V) → Type 0
-  Hears B c (Refused r) B' = B' ≡ B
-  Hears B c (Accepted a) B' = Enters B c B'
+  Hears B c (Err r) B' = B' ≡ B
+  Hears B c (Ok a) B' = Enters B c B'
 
   -- B becomes B' by these calls, one after another
   abbrev pub Fed : List (Page V) → List Call → List Outcome → List (Page V) → Type 0

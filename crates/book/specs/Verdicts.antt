@@ -1,15 +1,22 @@
 -- What the verdict record says of two tables. Assumes nothing.
-use Rattle.std.specs.Prelude.{◌≡◌, ◌-◌, ◌⊎◌, ◌++◌, length, take, replicate}
+use Rattle.std.specs.Prelude.{◌≡◌, ℕ, ◌-◌, ◌⊎◌, ◌++◌, length, take, replicate}
 use Rattle.field.specs.FiniteField.{FiniteField}
 use Rattle.series.specs.Words.{Word, ◌≺◌}
 use Rattle.series.specs.Listing.{Count}
 use Rattle.series.specs.Tables.{Table, weight}
 use Rattle.series.specs.Comparing.{Kept, Tried, Alike, LeastDifference}
+use Rattle.book.specs.declared.verdict.Kind.{Kind}
+use Rattle.book.specs.declared.verdict.Kind.TheVariants as kinds
 use Rattle.book.specs.declared.verdict.Verdict.{Verdict}
+
+-- the number of each kind: 0, all words weigh alike; 1, some word does not
+abbrev pub kind_number : Kind → ℕ
+kind_number kinds.Alike = 0
+kind_number kinds.Differs = 1
 
 -- a record to which nothing is written yet
 abbrev pub unwritten : Verdict
-unwritten = record { kind = 0; tried = 0; kept = 0; length = 0; first = 0; second = 0; letters = replicate 31 0 }
+unwritten = record { kind = kinds.Alike; tried = 0; kept = 0; length = 0; first = 0; second = 0; letters = replicate 31 0 }
 
 -- the word that a verdict of kind 1 reports
 abbrev pub reported : Verdict → Word
@@ -19,7 +26,7 @@ module _ {V : Type 0} (K : FiniteField V) (S T : Table V) where
   -- all words weigh alike: kind 0, how many words are tried and kept, and zeros
   pub record SaysAlike (v : Verdict) : Type 0 where
     pub alike : Alike K S T
-    pub kind : v.kind ≡ 0
+    pub kind : kind_number v.kind ≡ 0
     pub tried : Count (Tried K S T) v.tried
     pub kept : Count (Kept K S T) v.kept
     pub length_zero : v.length ≡ 0
@@ -32,7 +39,7 @@ module _ {V : Type 0} (K : FiniteField V) (S T : Table V) where
   pub record SaysDifferent (v : Verdict) : Type 0 where
     pub word : Word
     pub least : LeastDifference K S T word
-    pub kind : v.kind ≡ 1
+    pub kind : kind_number v.kind ≡ 1
     pub tried : Count (λ u. Tried K S T u × ((u ≺ word) ⊎ (u ≡ word))) v.tried
     pub kept : v.kept ≡ 0
     pub length_word : v.length ≡ length word

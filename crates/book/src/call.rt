@@ -1,10 +1,14 @@
 //! The calls on a shelf.
+ghost use Rattle.std.specs.Prelude.{◌≡◌};
+ghost use Rattle.book.specs.Calls.{call_of, call_by};
 
-/// A call with its arguments. The result place is named last.
-#[derive(Clone, Copy)]
-pub enum Call<'a> {
+use std::convert::AsSlice;
+
+/// A call with its arguments, a text and a word held in `B`. The result place is named last.
+#[derive(Clone, Copy, Drop)]
+pub enum Call<B> {
     Load {
-        text: &'a [u8],
+        text: B,
         to: usize,
     },
     Sum {
@@ -37,7 +41,7 @@ pub enum Call<'a> {
     },
     Weigh {
         place: usize,
-        word: &'a [u8],
+        word: B,
     },
     Compare {
         first: usize,
@@ -51,11 +55,63 @@ pub enum Call<'a> {
     },
 }
 
+impl<B: AsSlice<u8>> Call<B> {
+    /// The same call, with its text or word lent.
+    pub fn borrowed(&self) -> Call<&[u8]>
+        ensures same_call { call_of result ≡ call_by B.items self.now }
+    {
+        match self {
+            Call::Load { text, to } => Call::Load {
+                text: text.as_slice(),
+                to: *to,
+            },
+            Call::Sum { first, second, to } => Call::Sum {
+                first: *first,
+                second: *second,
+                to: *to,
+            },
+            Call::Scale { place, code, to } => Call::Scale {
+                place: *place,
+                code: *code,
+                to: *to,
+            },
+            Call::Multiply { first, second, to } => Call::Multiply {
+                first: *first,
+                second: *second,
+                to: *to,
+            },
+            Call::After { place, letter, to } => Call::After {
+                place: *place,
+                letter: *letter,
+                to: *to,
+            },
+            Call::Turn { place, to } => Call::Turn {
+                place: *place,
+                to: *to,
+            },
+            Call::Reduce { place, to } => Call::Reduce {
+                place: *place,
+                to: *to,
+            },
+            Call::Weigh { place, word } => Call::Weigh {
+                place: *place,
+                word: word.as_slice(),
+            },
+            Call::Compare { first, second } => Call::Compare {
+                first: *first,
+                second: *second,
+            },
+            Call::Write { place } => Call::Write { place: *place },
+            Call::Clear { place } => Call::Clear { place: *place },
+        }
+    }
+}
+
 /// A call in a list, and how much it is given of the work memory and the output that are lent to the list: so many
 /// elements and so many bytes from the front, or all where there are no more.
 #[derive(Clone, Copy)]
 pub struct Request<'a> {
-    pub call: Call<'a>,
+    pub call: Call<&'a [u8]>,
     pub work: usize,
     pub output: usize,
 }

@@ -4,7 +4,7 @@ use crate::verdict::Verdict;
 
 /// What an accepted call answers: weigh a code, compare a copy of the verdict that it wrote, write a count of bytes, and
 /// every other call nothing. The verdict is copied because a list may hold several compares that are lent one record.
-#[derive(Clone, Copy)]
+#[derive(Clone, Copy, Debug, PartialEq, Eq)]
 pub enum Answer {
     Done,
     Code(u64),
@@ -12,9 +12,5 @@ pub enum Answer {
     Count(usize),
 }
 
-/// A call is accepted or refused.
-#[derive(Clone, Copy)]
-pub enum Outcome {
-    Accepted(Answer),
-    Refused(Refusal),
-}
+/// A call is accepted, with its answer, or refused.
+pub type Outcome = Result<Answer, Refusal>;

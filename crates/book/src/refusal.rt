@@ -1,12 +1,15 @@
 //! Why a call is refused.
-ghost use Rattle.std.specs.Prelude.{◌≡◌};
+ghost use Rattle.std.specs.Prelude.{◌≡◌, Some};
 ghost use Rattle.book.specs.Refusals.{refusal_number, refusal_position};
+ghost use Rattle.book.specs.Reasons.{refusal_reason};
+ghost use Rattle.book.specs.declared.refusal.Refusal.TheVariants.{Unreadable};
 
 use faults::LoadFault;
+use std::fmt;
 
 /// Why a call is refused. A letter outside tells its position in the word, from 1; an unreadable text tells line and
 /// column in its fault.
-#[derive(Clone, Copy)]
+#[derive(Clone, Copy, Debug, PartialEq, Eq)]
 pub enum Refusal {
     PlaceOutside,
     MemoryShort,
@@ -18,6 +21,33 @@ pub enum Refusal {
     CodeOutside,
     OutputShort,
     Unreadable(LoadFault),
+}
+
+impl From<LoadFault> for Refusal {
+    ghost from_gives = { λ fault r. r ≡ Unreadable fault };
+
+    fn from(found: LoadFault) -> Refusal {
+        Refusal::Unreadable(found)
+    }
+}
+
+impl fmt::Display for Refusal {
+    ghost output = { λ refusal. Some (refusal_reason refusal) };
+
+    fn fmt<W: fmt::Write>(&self, f: &mut fmt::Formatter<W>) -> fmt::Result {
+        match self {
+            Refusal::PlaceOutside => write!(f, "a place is outside 1 to 8"),
+            Refusal::MemoryShort => write!(f, "shelf memory is too short"),
+            Refusal::WorkShort => write!(f, "work memory is too short"),
+            Refusal::PlaceEmpty => write!(f, "a place is empty"),
+            Refusal::LettersDiffer => write!(f, "the letter counts differ"),
+            Refusal::StatesOver => write!(f, "the result has over 16 states"),
+            Refusal::LetterOutside { .. } => write!(f, "a letter is outside the table's letters"),
+            Refusal::CodeOutside => write!(f, "the code is not one of the field's"),
+            Refusal::OutputShort => write!(f, "the output is too short"),
+            Refusal::Unreadable(fault) => write!(f, "{fault}"),
+        }
+    }
 }
 
 impl Refusal {

@@ -1,13 +1,32 @@
 //! What a comparison of two tables says.
 ghost use Rattle.std.specs.Prelude.{◌≡◌};
-ghost use Rattle.book.specs.Verdicts.{unwritten};
+ghost use Rattle.book.specs.Verdicts.{kind_number, unwritten};
 
-/// The record that compare writes. Kind 0: all words weigh alike, so many words were tried and kept, and the rest is 0.
-/// Kind 1: the word reported, with its length, the codes of its weights and its letters, unused places 0; tried counts
-/// up to it, itself counted, and kept is 0.
-#[derive(Clone, Copy)]
+/// Whether two tables weigh all words alike, or some word differently.
+#[derive(Clone, Copy, Debug, PartialEq, Eq)]
+pub enum Kind {
+    Alike,
+    Differs,
+}
+
+impl Kind {
+    /// The kind's number, 0 or 1.
+    pub fn number(self) -> u8
+        ensures numbered { result ≡ kind_number self }
+    {
+        match self {
+            Kind::Alike => 0,
+            Kind::Differs => 1,
+        }
+    }
+}
+
+/// The record that compare writes. Alike: so many words were tried and kept, and the rest is 0. Differs: the word
+/// reported, with its length, the codes of its weights and its letters, unused places 0; tried counts up to it, itself
+/// counted, and kept is 0.
+#[derive(Clone, Copy, Debug, PartialEq, Eq)]
 pub struct Verdict {
-    pub kind: u8,
+    pub kind: Kind,
     pub tried: usize,
     pub kept: usize,
     pub length: usize,
@@ -23,7 +42,7 @@ impl Verdict {
     {
         let letters = [0u8; 31];
         Verdict {
-            kind: 0,
+            kind: Kind::Alike,
             tried: 0,
             kept: 0,
             length: 0,

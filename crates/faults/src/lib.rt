@@ -1,27 +1,30 @@
 //! What a text is refused for, and where.
 #![tactic(auto)]
 
-ghost use Rattle.std.specs.Prelude.{◌≡◌};
+ghost use Rattle.std.specs.Prelude.{◌≡◌, Some};
 ghost use Rattle.faults.specs.declared.LineFault.TheVariants.{Column};
 ghost use Rattle.faults.specs.declared.LoadFault.TheVariants.{Line};
 ghost use Rattle.faults.specs.Refusals.{column_position, line_position, load_position, column_refusal, line_refusal, load_refusal};
+ghost use Rattle.faults.specs.Reasons.{column_reason, line_reason, load_reason};
+
+use std::fmt;
 
 /// A place in a text: its line and its column, both counted from 1.
-#[derive(Clone, Copy)]
+#[derive(Clone, Copy, Debug, PartialEq, Eq)]
 pub struct Position {
     pub line: u32,
     pub column: u32,
 }
 
 /// A byte that cannot stand in its column.
-#[derive(Clone, Copy)]
+#[derive(Clone, Copy, Debug, PartialEq, Eq)]
 pub struct ColumnFault {
     pub position: Position,
 }
 
 /// What is wrong with a line: a column of it, its end before a byte that is due, its first byte, or a byte in the place
 /// of its newline.
-#[derive(Clone, Copy)]
+#[derive(Clone, Copy, Debug, PartialEq, Eq)]
 pub enum LineFault {
     Column(ColumnFault),
     Ends(Position),
@@ -31,7 +34,7 @@ pub enum LineFault {
 
 /// What is wrong with a text: a line of it, a number that is not the one due or not within its limits, or bytes after
 /// its last line.
-#[derive(Clone, Copy)]
+#[derive(Clone, Copy, Debug, PartialEq, Eq)]
 pub enum LoadFault {
     Line(LineFault),
     Value(Position),
@@ -51,6 +54,41 @@ impl From<LineFault> for LoadFault {
 
     fn from(fault: LineFault) -> LoadFault {
         LoadFault::Line(fault)
+    }
+}
+
+impl fmt::Display for ColumnFault {
+    ghost output = { λ fault. Some (column_reason fault) };
+
+    fn fmt<W: fmt::Write>(&self, f: &mut fmt::Formatter<W>) -> fmt::Result {
+        write!(f, "a byte cannot stand in its column")
+    }
+}
+
+impl fmt::Display for LineFault {
+    ghost output = { λ fault. Some (line_reason fault) };
+
+    fn fmt<W: fmt::Write>(&self, f: &mut fmt::Formatter<W>) -> fmt::Result {
+        match self {
+            LineFault::Column(fault) => write!(f, "{fault}"),
+            LineFault::Ends(_) => write!(f, "the text ends where a byte is due"),
+            LineFault::Unexpected(_) => write!(f, "another kind of line is due"),
+            LineFault::Unended(_) => write!(f, "the line should end here"),
+        }
+    }
+}
+
+impl fmt::Display for LoadFault {
+    ghost output = { λ fault. Some (load_reason fault) };
+
+    fn fmt<W: fmt::Write>(&self, f: &mut fmt::Formatter<W>) -> fmt::Result {
+        match self {
+            LoadFault::Line(fault) => write!(f, "{fault}"),
+            LoadFault::Value(_) => {
+                write!(f, "a number is not the one due or not within its limits")
+            }
+            LoadFault::Beyond(_) => write!(f, "nothing may follow the last line"),
+        }
     }
 }
 
