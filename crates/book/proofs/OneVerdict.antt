@@ -15,7 +15,7 @@ use Rattle.book.specs.declared.verdict.Verdict.{Verdict}
 one_count : (Good : Word → Type 0) (n m : ℕ) → Count Good n → Count Good m → n ≡ m
 one_count Good n m a b = count_unique Good n m a.0 b.0 a.1 b.1
 
-one_kind : (a b : Kind) → kind_number a ≡ kind_number b → a ≡ b
+pub one_kind : (a b : Kind) → kind_number a ≡ kind_number b → a ≡ b
 one_kind Alike Alike e = refl
 one_kind Alike Differs e = absurd (omega (arith, e))
 one_kind Differs Alike e = absurd (omega (arith, e))

@@ -14,6 +14,7 @@ use Rattle.series.proofs.Families.{mix_span}
 use Rattle.series.proofs.Listings.{followed_list, followed_at, listed_upto}
 use Rattle.series.proofs.KeptWords.{kept_prefix, kept_decide, tried_listed, tried_number}
 use Rattle.book.specs.Verdicts.{Says}
+use Rattle.book.specs.declared.verdict.Kind.TheVariants as kinds
 use Rattle.figures.specs.Examples.{word_of}
 use Rattle.figures.proofs.Computed.{same_codes, same_values, same_rows, same_entries}
 use Rattle.figures.proofs.OneLetter.{length_is, words_over, by_length, smaller_shorter, words_split, fresh_listed}
@@ -51,7 +52,7 @@ module _ {V : Type 0} (K : FiniteField V) (S T : Table V) (n : ℕ) (at : ℕ �
   number : 1 + S.letters * n ≡ 1 + n
   number = ap (λ k. 1 + k * n) tests.one_letter ∙ ap (λ k. 1 + k) (one-mul n)
 
-  pub says_alike : Alike K S T → (tried : ℕ) → tried ≡ 1 + n → Says K S T (record { kind = 0; tried = tried; kept = n; length = 0; first = 0; second = 0; letters = replicate 31 0 })
+  pub says_alike : Alike K S T → (tried : ℕ) → tried ≡ 1 + n → Says K S T (record { kind = kinds.Alike; tried = tried; kept = n; length = 0; first = 0; second = 0; letters = replicate 31 0 })
   says_alike h tried e = inl (record {
     alike = h;
     kind = refl;
@@ -89,7 +90,7 @@ module _ {V : Type 0} (K : FiniteField V) (S T : Table V) (n : ℕ) (at : ℕ �
     )
 
     pub says_different : Says K S T (record {
-      kind = 1;
+      kind = kinds.Differs;
       tried = suc (suc m);
       kept = 0;
       length = suc m;

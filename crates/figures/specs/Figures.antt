@@ -7,6 +7,7 @@ use Rattle.series.specs.Reducing.{Reduced}
 use Rattle.text.specs.Texts.{text_of}
 use Rattle.text.specs.Readings.{Sized}
 use Rattle.book.specs.Verdicts.{Says}
+use Rattle.book.specs.declared.verdict.Kind.TheVariants as kinds
 use Rattle.residue.specs.Delivered.{fermat}
 use Rattle.figures.specs.Examples.{of_codes, fibonacci_with, fibonacci, multiplier, word_of, lines}
 
@@ -31,7 +32,7 @@ pub record WorkedFigures (inverse_of_83 half : ℕ) (fibonacci_weights square_ro
   pub square_reduced : Reduced fermat 1 (weight fermat (product_table fermat fibonacci fibonacci))
       (of_codes (1 ∷ 0 ∷ 0 ∷ []) ((0 ∷ 1 ∷ 0 ∷ []) ∷ (0 ∷ 0 ∷ 1 ∷ []) ∷ square_row ∷ []) (0 ∷ 1 ∷ 1 ∷ []))
   -- the verdict on the Fibonacci table and itself
-  pub itself_compared : Says fermat fibonacci fibonacci (record { kind = 0; tried = tried; kept = kept; length = 0; first = 0; second = 0; letters = replicate 31 0 })
+  pub itself_compared : Says fermat fibonacci fibonacci (record { kind = kinds.Alike; tried = tried; kept = kept; length = 0; first = 0; second = 0; letters = replicate 31 0 })
   -- the text of the table of one state that multiplies by 1, which is within the limits of a text
   pub text_of_one : Sized (multiplier 1) × (text_of fermat (multiplier 1) ≡ lines (
       "T          1          1      65537" ∷
@@ -47,4 +48,4 @@ pub record WorkedFigures (inverse_of_83 half : ℕ) (fibonacci_weights square_ro
       "E          1" ∷
       "Z" ∷ []))
   -- the verdict on the tables of these two texts
-  pub texts_compared : Says fermat (multiplier 1) (multiplier 0) (record { kind = 1; tried = 2; kept = 0; length = 1; first = 1; second = 0; letters = 1 ∷ replicate 30 0 })
+  pub texts_compared : Says fermat (multiplier 1) (multiplier 0) (record { kind = kinds.Differs; tried = 2; kept = 0; length = 1; first = 1; second = 0; letters = 1 ∷ replicate 30 0 })

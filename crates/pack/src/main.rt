@@ -3,6 +3,7 @@
 
 use anyhow::anyhow;
 use book::refusal::Refusal;
+use book::verdict::Kind;
 use byte::Byte;
 use command::VERSION;
 use command::files::read_file;
@@ -69,7 +70,7 @@ fn pack_over<F: Field>(
         Err(refusal) => return refuse(rt, name, &refusal),
     };
     // By the contract of `pack` neither can be; the text is not written where one is.
-    if done.verdict.kind != 0 || done.bytes > output.len() {
+    if done.verdict.kind != Kind::Alike || done.bytes > output.len() {
         return Err(anyhow!("the packed table weighs some word differently"));
     }
     let packed = &output[0..done.bytes];

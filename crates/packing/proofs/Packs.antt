@@ -1,5 +1,5 @@
 -- What the calls of packing did, put together. Assumes nothing.
-use Rattle.std.proofs.Common.{◌≡◌, ℕ, ◌≤◌, ◌≢◌, List, map, length, replicate, Err, Result, sym, refl, ap, ◌∙◌, subst, inl, inr, arith, MatchResult}
+use Rattle.std.proofs.Common.{◌≡◌, ℕ, ◌≤◌, ◌≢◌, List, map, length, replicate, Err, Result, sym, refl, ap, ◌∙◌, subst, inl, inr, arith, MatchResult, Ok}
 use Rattle.field.specs.FiniteField.{FiniteField}
 use Rattle.series.specs.Words.{Word, Over}
 use Rattle.series.specs.Tables.{Table, weight, SameTable}
@@ -20,7 +20,6 @@ use Rattle.book.specs.declared.refusal.Refusal.TheVariants.{MemoryShort, WorkSho
 use Rattle.book.specs.declared.verdict.Verdict.{Verdict}
 use Rattle.book.specs.declared.outcome.Answer.{Answer}
 use Rattle.book.specs.declared.outcome.Answer.TheVariants.{Done, Code, Told, Count}
-use Rattle.book.specs.declared.outcome.Outcome.TheVariants.{Accepted}
 use Rattle.book.proofs.Places.{at_same, at_other, length_with}
 use Rattle.book.proofs.Blocks.{fits, same_sym, same_trans, same_by_values}
 use Rattle.shelf.specs.Views.{entry_of, shelf_of, state}
@@ -47,7 +46,7 @@ not_empty : (e : Entry) (n k : ℕ) → e ≡ filled n k → e ≢ empty
 not_empty e n k a b = subst Full (sym a ∙ b) tt
 
 module _ {V : Type 0} (K : FiniteField V) {F : Type 0} (value : F → V) (text : List ℕ) (es es₁ : List EntryCode) (mem mem₁ : List F) (w w₁ : ℕ) (out : List ℕ) (v : Verdict)
-    (opened : map entry_of es ≡ replicate 8 empty) (loaded : Does K value (state es mem w out v) (load text 1) (Accepted Done) (state es₁ mem₁ w₁ out v)) where
+    (opened : map entry_of es ≡ replicate 8 empty) (loaded : Does K value (state es mem w out v) (load text 1) (Ok Done) (state es₁ mem₁ w₁ out v)) where
   -- the table of the text
   abbrev T₀ : Table V
   T₀ = loaded.1.1.0
@@ -86,7 +85,7 @@ module _ {V : Type 0} (K : FiniteField V) {F : Type 0} (value : F → V) (text :
   pub reduces_then : (r : Refusal) → Refuses K (state es₁ mem₁ w₁ out v) (reduce 1 2) r → ⊥
   reduces_then r h = never_reduce K (state es₁ mem₁ w₁ out v) memory₁ working₁ (not_empty (at_place empty (map entry_of es₁) 1) T₀.states T₀.letters entry_1) r h.meets
 
-  module _ (es₂ : List EntryCode) (mem₂ : List F) (w₂ : ℕ) (reduces : Does K value (state es₁ mem₁ w₁ out v) (reduce 1 2) (Accepted Done) (state es₂ mem₂ w₂ out v)) where
+  module _ (es₂ : List EntryCode) (mem₂ : List F) (w₂ : ℕ) (reduces : Does K value (state es₁ mem₁ w₁ out v) (reduce 1 2) (Ok Done) (state es₂ mem₂ w₂ out v)) where
     -- the table that reduce made
     abbrev R₀ : Table V
     R₀ = reduces.1.1.0
@@ -162,8 +161,8 @@ module _ {V : Type 0} (K : FiniteField V) {F : Type 0} (value : F → V) (text :
     says_alike d (inl s) = s
     says_alike d (inr s) = absurd (s.least.differs (alike s.word s.least.over))
 
-    module _ (w₃ : ℕ) (v' : Verdict) (compares : Does K value (state es₂ mem₂ w₂ out v) (compare 1 2) (Accepted (Told v')) (state es₂ mem₂ w₃ out v')) (n : ℕ) (out' : List ℕ)
-        (writes : Does K value (state es₂ mem₂ w₃ out v') (write 2) (Accepted (Count n)) (state es₂ mem₂ w₃ out' v')) where
+    module _ (w₃ : ℕ) (v' : Verdict) (compares : Does K value (state es₂ mem₂ w₂ out v) (compare 1 2) (Ok (Told v')) (state es₂ mem₂ w₃ out v')) (n : ℕ) (out' : List ℕ)
+        (writes : Does K value (state es₂ mem₂ w₃ out v') (write 2) (Ok (Count n)) (state es₂ mem₂ w₃ out' v')) where
       pub packs : (before after : ℕ) → before ≡ states_of (at_place empty (map entry_of es₂) 1) → after ≡ states_of (at_place empty (map entry_of es₂) 2) → Packs K value text mem mem₂ out out' (record { before = before; after = after; bytes = n; verdict = v' })
       packs before after b a = record {
         reduction = reduction;

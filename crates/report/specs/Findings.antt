@@ -1,5 +1,7 @@
 -- What was found of two texts, and the line that tells it. Assumes nothing.
-use Rattle.std.specs.Prelude.{◌≡◌, ℕ, zero, suc, ◌^◌, ◌<◌, ◌≤◌, List, ◌++◌, length, drop, slice_index}
+use Rattle.std.specs.Prelude.{◌≡◌, ℕ, ◌^◌, ◌<◌, ◌≤◌, List, ◌++◌, length, drop, slice_index}
+use Rattle.book.specs.declared.verdict.Kind.{Kind}
+use Rattle.book.specs.declared.verdict.Kind.TheVariants as kinds
 use Rattle.book.specs.declared.verdict.Verdict.{Verdict}
 use Rattle.report.specs.declared.finding.Finding.{Finding}
 use Rattle.report.specs.declared.finding.Finding.TheVariants.{Refused, Compared}
@@ -10,9 +12,9 @@ abbrev pub TenDigits : List ℕ → Type 0
 TenDigits vs = (i : ℕ) → i < length vs → slice_index vs i < 10 ^ 10
 
 -- the line of a verdict, by its kind
-abbrev pub verdict_line : ℕ → Verdict → List ℕ
-verdict_line zero v = alike_line v
-verdict_line (suc kind) v = different_line v
+abbrev pub verdict_line : Kind → Verdict → List ℕ
+verdict_line kinds.Alike v = alike_line v
+verdict_line kinds.Differs v = different_line v
 
 -- the line that tells what was found
 abbrev pub finding_line : Finding → List ℕ

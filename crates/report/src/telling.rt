@@ -6,7 +6,7 @@ ghost use Rattle.report.specs.Findings.{Fits, FindingFits, finding_line, AtFront
 use crate::finding::{Finding, find};
 use crate::line::put_line;
 use book::refusal::Refusal;
-use book::verdict::Verdict;
+use book::verdict::{Kind, Verdict};
 use field::Field;
 
 /// The longest line: a first byte, four numbers, 31 letters and byte 10.
@@ -61,13 +61,10 @@ fn put_finding(out: &mut [u8], finding: &Finding) -> usize
 {
     match finding {
         Finding::Refused { text, refusal } => put_refused(out, *text, refusal),
-        Finding::Compared(verdict) => {
-            if verdict.kind == 0 {
-                put_alike(out, verdict)
-            } else {
-                put_different(out, verdict)
-            }
-        }
+        Finding::Compared(verdict) => match verdict.kind {
+            Kind::Alike => put_alike(out, verdict),
+            Kind::Differs => put_different(out, verdict),
+        },
     }
 }
 

@@ -8,7 +8,7 @@ use Rattle.book.specs.Doing.{Does}
 use Rattle.book.specs.declared.refusal.Refusal.{Refusal}
 use Rattle.book.specs.declared.refusal.Refusal.TheVariants.{PlaceOutside, PlaceEmpty}
 use Rattle.book.specs.declared.outcome.Answer.TheVariants.{Done}
-use Rattle.book.specs.declared.outcome.Outcome.{Outcome}
+use Rattle.book.specs.Outcomes.{Outcome}
 use Rattle.book.proofs.Checks.{Passed, passed_0, passed_1, passed_2, passed_3, passed_4, refused_at}
 use Rattle.shelf.specs.Views.{entry_of, state, outcome_by}
 use Rattle.shelf.specs.Clearing.{Clears}

@@ -6,7 +6,7 @@ use Rattle.book.specs.Shelves.{State}
 use Rattle.book.specs.Running.{Run, next, call_in}
 use Rattle.book.specs.Law.{RunFollows, UsesFollowTheBook}
 use Rattle.book.specs.declared.call.Request.{Request}
-use Rattle.book.specs.declared.outcome.Outcome.{Outcome}
+use Rattle.book.specs.Outcomes.{Outcome}
 use Rattle.shelf.specs.Performing.{TakenUp}
 
 drop_one : {X : Type 0} (xs : List X) (i : ℕ) → drop (suc i) xs ≡ drop 1 (drop i xs)

@@ -5,7 +5,7 @@ use Rattle.book.specs.Shelves.{State}
 use Rattle.book.specs.Doing.{Does}
 use Rattle.book.specs.Running.{call_in, given, taken_back}
 use Rattle.book.specs.declared.call.Request.{Request}
-use Rattle.book.specs.declared.outcome.Outcome.{Outcome}
+use Rattle.book.specs.Outcomes.{Outcome}
 
 -- the requested call does what it does with what it is given, and leaves the rest of what was lent as it was
 pub record TakenUp {V : Type 0} (K : FiniteField V) {F : Type 0} (value : F → V) (s : State F) (r : Request) (o : Outcome) (t : State F) : Type 0 where

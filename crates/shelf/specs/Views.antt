@@ -4,10 +4,10 @@ use Rattle.search.specs.declared.compare.Comparison.{Comparison}
 use Rattle.search.specs.declared.compare.Comparison.TheVariants.{Alike, Differs}
 use Rattle.book.specs.Shelves.{Entry, empty, filled, Shelf, State}
 use Rattle.book.specs.declared.refusal.Refusal.{Refusal}
+use Rattle.book.specs.declared.verdict.Kind.TheVariants as kinds
 use Rattle.book.specs.declared.verdict.Verdict.{Verdict}
 use Rattle.book.specs.declared.outcome.Answer.{Answer}
-use Rattle.book.specs.declared.outcome.Outcome.{Outcome}
-use Rattle.book.specs.declared.outcome.Outcome.TheVariants.{Accepted, Refused}
+use Rattle.book.specs.Outcomes.{Outcome}
 use Rattle.shelf.specs.declared.size.Size.{Size}
 use Rattle.shelf.specs.declared.entry.Entry.{Entry as EntryCode}
 
@@ -30,10 +30,10 @@ state entries memory work output verdict = record { shelf = shelf_of entries mem
 
 -- what comes of a call, by what the function returns; `tells` makes an answer of what it returns when it is not refused
 abbrev pub outcome_by : {T : Type 0} → (T → Answer) → Result T Refusal → Outcome
-outcome_by tells (Ok x) = Accepted (tells x)
-outcome_by tells (Err r) = Refused r
+outcome_by tells (Ok x) = Ok (tells x)
+outcome_by tells (Err r) = Err r
 
 -- the verdict record of a comparison
 abbrev pub verdict_on : Comparison → Verdict
-verdict_on (Alike tried kept) = record { kind = 0; tried = tried; kept = kept; length = 0; first = 0; second = 0; letters = replicate 31 0 }
-verdict_on (Differs word tried left right) = record { kind = 1; tried = tried; kept = 0; length = word.length; first = left; second = right; letters = word.letters }
+verdict_on (Alike tried kept) = record { kind = kinds.Alike; tried = tried; kept = kept; length = 0; first = 0; second = 0; letters = replicate 31 0 }
+verdict_on (Differs word tried left right) = record { kind = kinds.Differs; tried = tried; kept = 0; length = word.length; first = left; second = right; letters = word.letters }

@@ -21,8 +21,8 @@ fn made(r: Result<(), Refusal>) -> Outcome
     ensures told { result ≡ outcome_by (λ _. Done) r }
 {
     match r {
-        Ok(()) => Outcome::Accepted(Answer::Done),
-        Err(refusal) => Outcome::Refused(refusal),
+        Ok(()) => Ok(Answer::Done),
+        Err(refusal) => Err(refusal),
     }
 }
 
@@ -31,8 +31,8 @@ fn weighed(r: Result<u64, Refusal>) -> Outcome
     ensures told { result ≡ outcome_by Code r }
 {
     match r {
-        Ok(code) => Outcome::Accepted(Answer::Code(code)),
-        Err(refusal) => Outcome::Refused(refusal),
+        Ok(code) => Ok(Answer::Code(code)),
+        Err(refusal) => Err(refusal),
     }
 }
 
@@ -41,8 +41,8 @@ fn written(r: Result<usize, Refusal>) -> Outcome
     ensures told { result ≡ outcome_by Count r }
 {
     match r {
-        Ok(count) => Outcome::Accepted(Answer::Count(count)),
-        Err(refusal) => Outcome::Refused(refusal),
+        Ok(count) => Ok(Answer::Count(count)),
+        Err(refusal) => Err(refusal),
     }
 }
 
@@ -51,8 +51,8 @@ fn compared(r: Result<(), Refusal>, verdict: &Verdict) -> Outcome
     ensures told { result ≡ outcome_by (λ _. Told verdict.now) r }
 {
     match r {
-        Ok(()) => Outcome::Accepted(Answer::Told(*verdict)),
-        Err(refusal) => Outcome::Refused(refusal),
+        Ok(()) => Ok(Answer::Told(*verdict)),
+        Err(refusal) => Err(refusal),
     }
 }
 
@@ -64,7 +64,7 @@ impl Directory {
         work: &mut [F],
         output: &mut [u8],
         verdict: &mut Verdict,
-        call: &Call<'_>,
+        call: &Call<&[u8]>,
     ) -> Outcome
         ensures does { Does F.field F.value (state self.old.entries shelf.old (length work.old) output.old verdict.old) (call_of call.now) result (state self.new.entries shelf.new (length work.new) output.new verdict.new) }
     {

@@ -8,7 +8,7 @@ ghost use Rattle.shelf.specs.Views.{state, outcome_by, verdict_on};
 use crate::checks::{SHELF, within};
 use crate::directory::Directory;
 use book::refusal::Refusal;
-use book::verdict::Verdict;
+use book::verdict::{Kind, Verdict};
 use field::Field;
 use rows::weighing;
 use search::compare::Comparison;
@@ -24,7 +24,7 @@ fn verdict_of(found: Comparison) -> Verdict
         Comparison::Alike { tried, kept } => {
             let letters = [0u8; 31];
             Verdict {
-                kind: 0,
+                kind: Kind::Alike,
                 tried,
                 kept,
                 length: 0,
@@ -41,7 +41,7 @@ fn verdict_of(found: Comparison) -> Verdict
         } => {
             let letters = word.letters;
             Verdict {
-                kind: 1,
+                kind: Kind::Differs,
                 tried,
                 kept: 0,
                 length: word.length,

@@ -9,9 +9,10 @@ mod tests {
     use book::call::{Call, Request};
     use book::outcome::{Answer, Outcome};
     use book::refusal::Refusal;
-    use book::verdict::Verdict;
+    use book::verdict::{Kind, Verdict};
     use byte::Byte;
     use columns::column::put_number;
+    use faults::{LineFault, LoadFault, Position};
     use field::Field;
     use loose::Loose;
     use residue::{Bit, Fermat};
@@ -50,7 +51,7 @@ mod tests {
     fn odd_verdict() -> Verdict {
         let letters = [77u8; 31];
         Verdict {
-            kind: 9,
+            kind: Kind::Differs,
             tried: 9,
             kept: 9,
             length: 9,
@@ -72,7 +73,7 @@ mod tests {
     // A verdict as numbers: kind, tried, kept, length, both weights, and all letters as two numbers.
     fn numbers(v: &Verdict) -> [u64; 8] {
         [
-            u64::from(v.kind),
+            u64::from(v.kind.number()),
             v.tried as u64,
             v.kept as u64,
             v.length as u64,
@@ -87,19 +88,19 @@ mod tests {
     // the two weights.
     fn summary(outcome: &Outcome) -> [u64; 7] {
         match outcome {
-            Outcome::Accepted(Answer::Done) => [0, 0, 0, 0, 0, 0, 0],
-            Outcome::Accepted(Answer::Code(code)) => [0, 1, *code, 0, 0, 0, 0],
-            Outcome::Accepted(Answer::Count(count)) => [0, 2, *count as u64, 0, 0, 0, 0],
-            Outcome::Accepted(Answer::Told(v)) => [
+            Ok(Answer::Done) => [0, 0, 0, 0, 0, 0, 0],
+            Ok(Answer::Code(code)) => [0, 1, *code, 0, 0, 0, 0],
+            Ok(Answer::Count(count)) => [0, 2, *count as u64, 0, 0, 0, 0],
+            Ok(Answer::Told(v)) => [
                 0,
-                u64::from(v.kind) + 3,
+                u64::from(v.kind.number()) + 3,
                 v.tried as u64,
                 v.kept as u64,
                 v.length as u64,
                 v.first,
                 v.second,
             ],
-            Outcome::Refused(refusal) => {
+            Err(refusal) => {
                 let (line, column) = refusal.position();
                 let place = match refusal {
                     Refusal::LetterOutside { position } => *position as u64,
@@ -124,7 +125,7 @@ mod tests {
         shelf: &mut [F],
         work: &mut [F],
         output: &mut [u8],
-        call: &Call<'_>,
+        call: &Call<&[u8]>,
     ) -> [u64; 7] {
         let mut verdict = odd_verdict();
         let outcome = directory.make(shelf, work, output, &mut verdict, call);
@@ -138,7 +139,7 @@ mod tests {
         shelf: &mut [F],
         work: &mut [F],
         output: &mut [u8],
-        calls: &[Call<'_>],
+        calls: &[Call<&[u8]>],
         number: u64,
     ) {
         let mut verdict = odd_verdict();
@@ -156,7 +157,7 @@ mod tests {
         shelf: &mut [F],
         work: &mut [F],
         output: &mut [u8],
-        calls: &[Call<'_>],
+        calls: &[Call<&[u8]>],
     ) {
         for call in calls {
             assert_eq!(rt; made(directory, shelf, work, output, call), [0; 7]);
@@ -499,7 +500,7 @@ mod tests {
         shelf: &mut [F],
         work: &mut [F],
         output: &mut [u8],
-        calls: &[Call<'_>],
+        calls: &[Call<&[u8]>],
         expected: &[[u64; 7]],
     ) -> Result<(), Fail> {
         assert_eq!(rt; calls.len(), expected.len());
@@ -1062,7 +1063,7 @@ mod tests {
     }
 
     // A call with all the memory that it can ask for.
-    fn ask(call: Call<'_>) -> Request<'_> {
+    fn ask(call: Call<&[u8]>) -> Request<'_> {
         Request {
             call,
             work: 8192,
@@ -1098,7 +1099,7 @@ mod tests {
         word: &'a [u8],
     ) -> Result<(), Fail> {
         let mut verdict = odd_verdict();
-        let mut outcomes = [Outcome::Refused(Refusal::PlaceOutside); 12];
+        let mut outcomes = [Err(Refusal::PlaceOutside); 12];
         let requests = [
             ask(Call::Load { text, to: 1 }),
             ask(Call::Weigh { place: 1, word }),
@@ -1161,7 +1162,7 @@ mod tests {
     ) -> Result<(), Fail> {
         let last = F::order().wrapping_sub(1);
         let mut verdict = odd_verdict();
-        let mut outcomes = [Outcome::Refused(Refusal::PlaceOutside); 12];
+        let mut outcomes = [Err(Refusal::PlaceOutside); 12];
         let requests = [
             ask(Call::After {
                 place: 2,
@@ -1364,5 +1365,46 @@ mod tests {
             kept: 4,
         };
         check_lists(&rt, &mut shelf, &mut work, &mut output, known)
+    }
+
+    // The reason of a refusal, for a person.
+    #[test]
+    fn refusals_in_words(rt: HostRuntime) -> Result<(), Fail> {
+        let at = Position { line: 1, column: 2 };
+        let told = [
+            (Refusal::PlaceOutside, "a place is outside 1 to 8"),
+            (
+                Refusal::LetterOutside { position: 1 },
+                "a letter is outside the table's letters",
+            ),
+            (
+                Refusal::Unreadable(LoadFault::Line(LineFault::Ends(at))),
+                "the text ends where a byte is due",
+            ),
+            (
+                Refusal::Unreadable(LoadFault::Beyond(at)),
+                "nothing may follow the last line",
+            ),
+        ];
+        for (refusal, words) in told {
+            let shown = format!(in rt.alloc(); "{refusal}")?;
+            assert_eq!(rt; shown.as_str(), words);
+        }
+        Ok(())
+    }
+
+    // A call that owns its word lends it to the call that is made.
+    #[test]
+    fn a_call_that_owns_its_word(rt: HostRuntime) -> Result<(), Fail> {
+        let word = vec![in rt.alloc(); 1u8, 2]?;
+        let call = Call::Weigh { place: 3, word };
+        match call.borrowed() {
+            Call::Weigh { place, word } => {
+                assert_eq!(rt; place, 3);
+                assert_eq!(rt; word, [1, 2].as_slice());
+            }
+            _ => return Err(Fail::new("another call")),
+        }
+        Ok(())
     }
 }
