@@ -1,5 +1,6 @@
 //! Performs a script, a request at a time, since what write wrote is shown before the next call.
-ghost use Rattle.std.specs.Prelude.{◌≡◌, length};
+ghost use Rattle.std.specs.Prelude.{◌≡◌, ◌*◌, ◌^◌, ◌<◌, length};
+ghost use Rattle.std.specs.Mem.{type_size};
 ghost use Rattle.book.specs.Verdicts.{unwritten};
 ghost use Rattle.shelf.specs.Views.{state, shelf_of};
 ghost use Rattle.scripting.specs.Making.{Makes};
@@ -23,8 +24,7 @@ use residue::{Bit, Fermat};
 use shelf::directory::Directory;
 use std::alloc::{AllocError, Global};
 use std::error::Error;
-use std::fmt;
-use std::slice;
+use std::{fmt, slice};
 
 /// How many elements of work memory there are.
 pub const WORK: usize = 8192;
@@ -78,18 +78,27 @@ struct Session {
 
 impl Session {
     // Adds the line that shows what came of a call, and what it wrote.
-    fn show(&mut self, number: usize, verb: Verb, outcome: Outcome, output: &[u8]) -> Result<(), AllocError> {
+    fn show(
+        &mut self,
+        number: usize,
+        verb: Verb,
+        outcome: Outcome,
+        output: &[u8],
+    ) -> Result<(), AllocError> {
         let told = Shown(outcome);
         let line = format!(in self.heap; "{number} {verb}: {told}\n")?;
         self.shown.extend_from_slice(line.as_bytes())?;
         if let Ok(Answer::Count(count)) = outcome {
-            self.shown.extend_from_slice(&output[..count.min(output.len())])?;
+            self.shown
+                .extend_from_slice(&output[..count.min(output.len())])?;
         }
         Ok(())
     }
 
     // Performs the lines on a shelf over F, up to one that opens a shelf over a field.
-    fn over<F: Field>(&mut self, lines: &[Line]) -> Result<(), AllocError> {
+    fn over<F: Field>(&mut self, lines: &[Line]) -> Result<(), AllocError>
+        requires elements_fit { 12544 * type_size F.row < 2 ^ 63 }
+    {
         let mut directory = Directory::open();
         let mut shelf = [F::zero(); SHELF];
         let mut open = SHELF;
@@ -195,10 +204,11 @@ pub fn run(heap: Global, script: &Script) -> Result<Vec<u8>, Failure>
     ensures judged { Judged result (mistakes_of script.now.lines.items) }
 {
     let mistakes = script.mistakes(heap)?;
-    if !mistakes.is_empty() {
-        return Err(Failure::Mistaken(mistakes));
+    if mistakes.is_empty() {
+        Ok(perform(heap, script)?)
+    } else {
+        Err(Failure::Mistaken(mistakes))
     }
-    Ok(perform(heap, script)?)
 }
 
 /// Reads and performs a script that names no file.

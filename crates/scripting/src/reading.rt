@@ -1,5 +1,5 @@
 //! A whole script, read line by line.
-ghost use Rattle.std.specs.Prelude.{◌≡◌, ◌≤◌, length, IfOk};
+ghost use Rattle.std.specs.Prelude.{◌≡◌, ◌<◌, ◌≤◌, length, IfOk};
 ghost use Rattle.std.specs.Option.{option_map};
 ghost use Rattle.scripting.specs.Splitting.{Later, Block};
 ghost use Rattle.scripting.specs.Mistakes.{mistakes_of, file_in, given_text};
@@ -37,7 +37,7 @@ pub struct Script {
 type Texts<'a> = BTreeMap<&'a [u8], &'a [u8]>;
 
 // The load of a text by its name: one that was given, else a file.
-fn load(heap: Global, texts: &Texts<'_>, name: &[u8], to: usize) -> Result<Entry, Reason> {
+fn load<'a>(heap: Global, texts: &Texts<'a>, name: &'a [u8], to: usize) -> Result<Entry, Reason> {
     if let Some(bytes) = texts.get(&name) {
         let text = bytes.to_vec(heap)?;
         return Ok(Entry::Order(Order::Call(Call::Load { text, to })));
@@ -51,6 +51,7 @@ fn load(heap: Global, texts: &Texts<'_>, name: &[u8], to: usize) -> Result<Entry
 fn after_newline(bytes: &[u8]) -> &[u8]
     ensures later { Later bytes.now result.now }
     ensures within { length result.now ≤ length bytes.now }
+    ensures shorter { 0 < length bytes.now → length result.now < length bytes.now }
 {
     let count = before(bytes, b'\n');
     bytes.get(count + 1..).unwrap_or(&[])
