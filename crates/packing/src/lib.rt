@@ -11,6 +11,7 @@ use book::refusal::Refusal;
 use book::verdict::Verdict;
 use field::Field;
 use shelf::directory::Directory;
+use shelf::size::Size;
 
 pub mod packed;
 
@@ -18,14 +19,12 @@ pub mod packed;
 fn states(directory: &Directory, place: usize) -> usize
     ensures told { result ≡ states_of (at_place empty (map entry_of directory.now.entries) place) }
 {
-    match directory.size(place) {
-        Some(size) => size.states(),
-        None => 0,
-    }
+    directory.size(place).map_or(0, Size::states)
 }
 
 /// Reads the text of a table, reduces the table, compares the two, and writes the text of the reduced form to the front of
 /// the output. The two tables are left at places 1 and 2 of shelf memory.
+// The output is lent, as the shelf and work memory are, so `Packed` tells how many bytes of it were written.
 pub fn pack<F: Field>(
     shelf: &mut [F],
     work: &mut [F],

@@ -1,10 +1,10 @@
 -- What was found of two texts, and the line that tells it. Assumes nothing.
-use Rattle.std.specs.Prelude.{◌≡◌, ℕ, ◌^◌, ◌<◌, ◌≤◌, List, ◌++◌, length, drop, slice_index}
+use Rattle.std.specs.Prelude.{◌≡◌, ℕ, ◌^◌, ◌<◌, ◌≤◌, List, ◌++◌, length, drop, slice_index, Ok, Err, Result}
 use Rattle.book.specs.declared.verdict.Kind.{Kind}
 use Rattle.book.specs.declared.verdict.Kind.TheVariants as kinds
 use Rattle.book.specs.declared.verdict.Verdict.{Verdict}
-use Rattle.report.specs.declared.finding.Finding.{Finding}
-use Rattle.report.specs.declared.finding.Finding.TheVariants.{Refused, Compared}
+use Rattle.report.specs.declared.finding.Rejection.{Rejection}
+use Rattle.report.specs.declared.finding.Rejection.TheVariants.{First, Second, Together}
 use Rattle.report.specs.Reports.{alike_line, different_line, refused_line}
 
 -- every number has at most ten digits
@@ -16,10 +16,12 @@ abbrev pub verdict_line : Kind → Verdict → List ℕ
 verdict_line kinds.Alike v = alike_line v
 verdict_line kinds.Differs v = different_line v
 
--- the line that tells what was found
-abbrev pub finding_line : Finding → List ℕ
-finding_line (Refused text refusal) = refused_line text refusal
-finding_line (Compared v) = verdict_line v.kind v
+-- the line that tells what was found; the two texts are numbered 1 and 2, and 0 stands for the two together
+abbrev pub finding_line : Result Verdict Rejection → List ℕ
+finding_line (Ok v) = verdict_line v.kind v
+finding_line (Err (First r)) = refused_line 1 r
+finding_line (Err (Second r)) = refused_line 2 r
+finding_line (Err (Together r)) = refused_line 0 r
 
 -- the numbers of a verdict fit their columns, and the word that it reports its 31 places
 pub record Fits (v : Verdict) : Type 0 where
@@ -29,11 +31,6 @@ pub record Fits (v : Verdict) : Type 0 where
   pub places : length v.letters ≡ 31
   pub first : v.first < 10 ^ 10
   pub second : v.second < 10 ^ 10
-
--- the numbers of what was found fit their columns
-abbrev pub FindingFits : Finding → Type 0
-FindingFits (Refused text refusal) = text ≤ 2
-FindingFits (Compared v) = Fits v
 
 -- a line of so many bytes stands at the front, and later bytes are as before
 pub record AtFront (l before : List ℕ) (count : ℕ) (left : List ℕ) : Type 0 where

@@ -1,9 +1,10 @@
 //! The line that tells what was found.
-ghost use Rattle.std.specs.Prelude.{◌≤◌, length};
-ghost use Rattle.report.specs.Reports.{alike_line, different_line, refused_line, Reports};
-ghost use Rattle.report.specs.Findings.{Fits, FindingFits, finding_line, AtFront};
+ghost use Rattle.std.specs.Prelude.{◌≤◌, ◌++◌, length, IfOk};
+ghost use Rattle.columns.specs.Lines.{line};
+ghost use Rattle.report.specs.Reports.{refused_line, Reports};
+ghost use Rattle.report.specs.Findings.{AtFront, Fits, TenDigits, finding_line, verdict_line};
 
-use crate::finding::{Finding, find};
+use crate::finding::{Rejection, find};
 use crate::line::put_line;
 use book::refusal::Refusal;
 use book::verdict::{Kind, Verdict};
@@ -12,59 +13,69 @@ use field::Field;
 /// The longest line: a first byte, four numbers, 31 letters and byte 10.
 const LONGEST: usize = 387;
 
-// Writes the line of a refused text, or of the two together.
+// Writes a line to the front of the output: how many bytes it has.
+fn put_in_front(out: &mut [u8], first: u8, values: &[u64], letters: &[u8]) -> usize
+    requires few { length values.now ≤ 4 }
+    requires ten_digits { TenDigits values.now }
+    requires few_letters { length letters.now ≤ 31 }
+    requires room { 387 ≤ length out.old }
+    ensures told { AtFront (line first (values.now ++ letters.now)) out.old result out.new }
+    ensures at_most { result ≤ 387 }
+{
+    let count = 2 + 11 * (values.len() + letters.len());
+    put_line(&mut out[..count], first, values, letters);
+    count
+}
+
+// Writes the line of a refused text, or of the two together: how many bytes it has.
 fn put_refused(out: &mut [u8], text: u8, refusal: &Refusal) -> usize
     requires room { 387 ≤ length out.old }
     ensures told { AtFront (refused_line text refusal.now) out.old result out.new }
     ensures at_most { result ≤ 387 }
 {
     let (line, column) = refusal.position();
-    let number = refusal.number();
-    let values = [text as u64, number as u64, line as u64, column as u64];
-    put_line(&mut out[0..46], b'R', &values, b"");
-    46
+    let values = [
+        u64::from(text),
+        u64::from(refusal.number()),
+        u64::from(line),
+        u64::from(column),
+    ];
+    put_in_front(out, b'R', &values, b"")
 }
 
-// Writes the line of tables that weigh all words alike.
-fn put_alike(out: &mut [u8], verdict: &Verdict) -> usize
+// Writes the line of a verdict: how many bytes it has.
+fn put_verdict(out: &mut [u8], verdict: &Verdict) -> usize
     requires room { 387 ≤ length out.old }
     requires fits { Fits verdict.now }
-    ensures told { AtFront (alike_line verdict.now) out.old result out.new }
+    ensures told { AtFront (verdict_line verdict.now.kind verdict.now) out.old result out.new }
     ensures at_most { result ≤ 387 }
 {
-    let values = [verdict.tried as u64, verdict.kept as u64];
-    put_line(&mut out[0..24], b'Q', &values, b"");
-    24
-}
-
-// Writes the line of tables that weigh a word differently.
-fn put_different(out: &mut [u8], verdict: &Verdict) -> usize
-    requires room { 387 ≤ length out.old }
-    requires fits { Fits verdict.now }
-    ensures told { AtFront (different_line verdict.now) out.old result out.new }
-    ensures at_most { result ≤ 387 }
-{
-    let count = 46 + 11 * verdict.length;
-    let (left, right) = (verdict.first, verdict.second);
-    let values = [verdict.tried as u64, verdict.length as u64, left, right];
-    let letters = &verdict.letters[0..verdict.length];
-    put_line(&mut out[0..count], b'D', &values, letters);
-    count
+    // `as`, since no `From` leads from usize to u64.
+    match verdict.kind {
+        Kind::Alike => {
+            let values = [verdict.tried as u64, verdict.kept as u64];
+            put_in_front(out, b'Q', &values, b"")
+        }
+        Kind::Differs => {
+            let (left, right) = (verdict.first, verdict.second);
+            let values = [verdict.tried as u64, verdict.length as u64, left, right];
+            put_in_front(out, b'D', &values, &verdict.letters[..verdict.length])
+        }
+    }
 }
 
 // Writes the line that tells what was found: how many bytes it has.
-fn put_finding(out: &mut [u8], finding: &Finding) -> usize
+fn put_finding(out: &mut [u8], found: &Result<Verdict, Rejection>) -> usize
     requires room { 387 ≤ length out.old }
-    requires fits { FindingFits finding.now }
-    ensures told { AtFront (finding_line finding.now) out.old result out.new }
+    requires fits { IfOk found.now (λ v. Fits v) }
+    ensures told { AtFront (finding_line found.now) out.old result out.new }
     ensures at_most { result ≤ 387 }
 {
-    match finding {
-        Finding::Refused { text, refusal } => put_refused(out, *text, refusal),
-        Finding::Compared(verdict) => match verdict.kind {
-            Kind::Alike => put_alike(out, verdict),
-            Kind::Differs => put_different(out, verdict),
-        },
+    match found {
+        Ok(verdict) => put_verdict(out, verdict),
+        Err(Rejection::First(refusal)) => put_refused(out, 1, refusal),
+        Err(Rejection::Second(refusal)) => put_refused(out, 2, refusal),
+        Err(Rejection::Together(refusal)) => put_refused(out, 0, refusal),
     }
 }
 

@@ -1,14 +1,18 @@
 //! Compares two tables: reads their texts, and writes the line that reports on them.
 #![tactic(auto)]
 
-ghost use Rattle.std.specs.Prelude.{◌≤◌, IfOk, vec_len};
+ghost use Rattle.std.specs.Prelude.{◌≤◌, IfOk, IsErr, vec_len};
+ghost use Rattle.verdict.specs.Reporting.{ReportsOver};
 
 use anyhow::anyhow;
+use byte::Byte;
 use command::VERSION;
 use command::files::{MOST, read_if_there};
 use command::offered::Offered;
 use command::wish::{Wish, asked_for, name_or};
-use report::{report, report_bits, report_bytes};
+use report::report_over;
+use residue::{Bit, Fermat};
+use std::io;
 use std::io::Write;
 use std::process::ExitCode;
 
@@ -31,28 +35,31 @@ text), and writes one line to standard output, numbers in 11 columns each:
 The status is 0 where a line was written, and 1 where a file cannot be read or
 the command line is wrong.";
 
-// The line that reports on two texts, over a field: how many bytes it has.
-fn report_over(field: Offered, first: &[u8], second: &[u8], line: &mut [u8]) -> usize
+// The line that reports on two texts, over a field that is offered: how many bytes it has.
+fn report_offered(field: Offered, first: &[u8], second: &[u8], line: &mut [u8]) -> usize
+    ensures reports { ReportsOver field first.now second.now line.old result line.new }
     ensures at_most_387 { result ≤ 387 }
 {
     match field {
-        Offered::Bits => report_bits(first, second, line),
-        Offered::Bytes => report_bytes(first, second, line),
-        Offered::Fermat => report(first, second, line),
+        Offered::Bits => report_over::<Bit>(first, second, line),
+        Offered::Bytes => report_over::<Byte>(first, second, line),
+        Offered::Fermat => report_over::<Fermat>(first, second, line),
     }
+}
+
+// Tells that a file cannot be read, and why.
+fn unread<T>(rt: &HostRuntime, name: &str, e: io::Error) -> anyhow::Result<T>
+    ensures failed { IsErr result }
+{
+    eprintln!(rt; "{name}: {e}")?;
+    Err(anyhow!("a file cannot be read"))
 }
 
 // Reads a file; one that is there and cannot be read is told.
 fn read(rt: &HostRuntime, name: &str) -> anyhow::Result<Vec<u8>>
     ensures within { IfOk result (λ v. vec_len v ≤ MOST) }
 {
-    match read_if_there(rt, name) {
-        Ok(text) => Ok(text),
-        Err(e) => {
-            eprintln!(rt; "{name}: {e}")?;
-            Err(anyhow!("a file cannot be read"))
-        }
-    }
+    read_if_there(rt, name).or_else(|e| unread(rt, name, e))
 }
 
 // Reads both texts, and writes the line.
@@ -60,8 +67,8 @@ fn work(rt: &HostRuntime, field: Offered, files: &[String]) -> anyhow::Result<()
     let first = read(rt, name_or(files, 0, "first"))?;
     let second = read(rt, name_or(files, 1, "second"))?;
     let mut line = [0u8; 387];
-    let count = report_over(field, first.as_slice(), second.as_slice(), &mut line);
-    rt.stdout().write_all(&line[0..count])?;
+    let count = report_offered(field, first.as_slice(), second.as_slice(), &mut line);
+    rt.stdout().write_all(&line[..count])?;
     Ok(())
 }
 
