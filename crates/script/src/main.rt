@@ -2,7 +2,7 @@
 //! mistakes, they are told on standard error, and nothing is performed.
 #![tactic(auto)]
 
-use scripting::performing::{Told, run};
+use scripting::performing::{Failure, run, tell};
 use scripting::reading::{Line, read};
 use std::fs;
 use std::io::{Read, Write};
@@ -10,10 +10,7 @@ use std::process::ExitCode;
 
 // Reads the file that a line loads; where it cannot be read, the line is left to be told as a mistake.
 fn read_file(rt: &HostRuntime, line: &mut Line) {
-    let found = match line.file() {
-        Some(name) => fs::read(rt, name).ok(),
-        None => None,
-    };
+    let found = line.file().and_then(|name| fs::read(rt, name).ok());
     if let Some(text) = found {
         line.give(text);
     }
@@ -23,19 +20,19 @@ fn main(rt: HostRuntime) -> anyhow::Result<ExitCode> {
     let mut bytes = Vec::new(rt.alloc());
     rt.stdin().read_to_end(&mut bytes)?;
     let mut script = read(rt.alloc(), bytes.as_slice())?;
-    for i in 0..script.lines.len() {
-        if let Some(line) = script.lines.get_mut(i) {
-            read_file(&rt, line);
-        }
+    for line in script.lines.iter_mut() {
+        read_file(&rt, line);
     }
-    match run(rt.alloc(), &script)? {
-        Told::Shown(shown) => {
+    match run(rt.alloc(), &script) {
+        Ok(shown) => {
             rt.stdout().write_all(shown.as_slice())?;
             Ok(ExitCode::SUCCESS)
         }
-        Told::Mistaken(mistakes) => {
-            rt.stderr().write_all(mistakes.as_slice())?;
+        Err(Failure::Mistaken(mistakes)) => {
+            let told = tell(rt.alloc(), mistakes.as_slice())?;
+            rt.stderr().write_all(told.as_slice())?;
             Ok(ExitCode::FAILURE)
         }
+        Err(e) => Err(anyhow::Error::from(e)),
     }
 }

@@ -6,7 +6,7 @@ use Rattle.scripting.specs.declared.reading.Line.{Line}
 use Rattle.scripting.specs.declared.reading.Entry.{Entry}
 use Rattle.scripting.specs.declared.reading.Entry.TheVariants.{Order, File, Mistaken}
 use Rattle.std.specs.declared.alloc.Global.{Global}
-use Rattle.scripting.specs.declared.action.Action.TheVariants.{Load}
+use Rattle.book.specs.declared.call.Call.TheVariants.{Load}
 use Rattle.scripting.specs.declared.order.Order.TheVariants.{Call}
 
 -- what is wrong with a line; a file that was not given is a mistake

@@ -1,43 +1,23 @@
 //! Decimal numbers.
-ghost use Rattle.std.specs.Prelude.{◌≡◌, ℕ, ◌^◌, ◌<◌, ◌≤◌, Decides, MatchOption, MatchResult};
-ghost use Rattle.scripting.specs.Numerals.{Digits, Numeral, Writes, read_on};
+ghost use Rattle.std.specs.Prelude.{ℕ, ◌^◌, ◌<◌, Decides, MatchResult};
+ghost use Rattle.scripting.specs.Numerals.{Numeral, Writes};
 
 use crate::mistake::Reason;
+use std::str;
 
 // Whether each byte is a digit, and there is one.
-fn digits(word: &[u8]) -> bool
+fn is_numeral(word: &[u8]) -> bool
     ensures decides { Decides result (Numeral word.now) }
 {
-    for b in word {
-        if *b < b'0' || *b > b'9' {
-            return false;
-        }
-    }
-    !word.is_empty()
+    !word.is_empty() && word.iter().all(|b| b.is_ascii_digit())
 }
 
-// The number that digits write, if it is below 2^64.
-fn value(word: &[u8]) -> Option<u64>
-    requires all_digits { Digits word.now }
-    ensures read { MatchOption result (2 ^ 64 ≤ read_on 0 word.now) (λ n. n ≡ read_on 0 word.now) }
-{
-    let mut value: u64 = 0;
-    for b in word {
-        let tens = value.checked_mul(10)?;
-        value = tens.checked_add(u64::from(*b - b'0'))?;
-    }
-    Some(value)
-}
-
-/// The number below 2^64 that a word writes.
+/// The number below 2^64 that a word writes. A numeral has no sign, which std would read.
 pub fn number(word: &[u8]) -> Result<u64, Reason>
     ensures written { MatchResult result (λ n. Writes word.now n) (λ _. (n : ℕ) → n < 2 ^ 64 → Writes word.now n → ⊥) }
 {
-    if !digits(word) {
-        return Err(Reason::NoNumber);
-    }
-    match value(word) {
-        Some(n) => Ok(n),
-        None => Err(Reason::NumberTooLarge),
+    match str::from_utf8(word) {
+        Ok(digits) if is_numeral(word) => digits.parse::<u64>().map_err(|_| Reason::NumberTooLarge),
+        _ => Err(Reason::NoNumber),
     }
 }

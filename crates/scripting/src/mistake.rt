@@ -1,9 +1,14 @@
 //! What is wrong with a line of a script.
+ghost use Rattle.std.specs.Prelude.{◌≡◌};
+ghost use Rattle.scripting.specs.declared.mistake.Reason.TheVariants.{NumberTooLarge, FieldNotOffered, NoMemory};
+
+use command::offered::NotOffered;
 use std::alloc::{AllocError, AllocFailed};
 use std::fmt;
+use std::num::TryFromIntError;
 
 /// Why a line is not performed.
-#[derive(Clone, Copy, Debug, PartialEq)]
+#[derive(Clone, Copy, Debug, PartialEq, Eq)]
 pub enum Reason {
     NoCall,
     WordMissing,
@@ -17,22 +22,41 @@ pub enum Reason {
     NoMemory,
 }
 
+impl From<TryFromIntError> for Reason {
+    ghost from_gives = { λ _ r. r ≡ NumberTooLarge };
+
+    fn from(_e: TryFromIntError) -> Reason {
+        Reason::NumberTooLarge
+    }
+}
+
+impl From<NotOffered> for Reason {
+    ghost from_gives = { λ _ r. r ≡ FieldNotOffered };
+
+    fn from(_e: NotOffered) -> Reason {
+        Reason::FieldNotOffered
+    }
+}
+
 impl From<AllocError> for Reason {
+    ghost from_gives = { λ _ r. r ≡ NoMemory };
+
     fn from(_e: AllocError) -> Reason {
         Reason::NoMemory
     }
 }
 
 impl<T: Drop> From<AllocFailed<T>> for Reason {
+    ghost from_gives = { λ _ r. r ≡ NoMemory };
+
     fn from(_e: AllocFailed<T>) -> Reason {
         Reason::NoMemory
     }
 }
 
-impl Reason {
-    /// The reason, for a person.
-    pub fn text(self) -> &'static str {
-        match self {
+impl fmt::Display for Reason {
+    fn fmt<W: fmt::Write>(&self, f: &mut fmt::Formatter<W>) -> fmt::Result {
+        f.write_str(match self {
             Reason::NoCall => "the first word is no call",
             Reason::WordMissing => "a word is missing",
             Reason::WordExtra => "a word is too many",
@@ -43,12 +67,12 @@ impl Reason {
             Reason::TextNotEnded => "a newline is due after the text",
             Reason::FileUnreadable => "the file cannot be read",
             Reason::NoMemory => "there is no memory for it",
-        }
+        })
     }
 }
 
 /// A line of a script, and what is wrong with it.
-#[derive(Clone, Copy)]
+#[derive(Clone, Copy, Debug, PartialEq, Eq)]
 pub struct Mistake {
     pub line: usize,
     pub reason: Reason,
@@ -56,8 +80,6 @@ pub struct Mistake {
 
 impl fmt::Display for Mistake {
     fn fmt<W: fmt::Write>(&self, f: &mut fmt::Formatter<W>) -> fmt::Result {
-        let line = self.line;
-        let reason = self.reason.text();
-        write!(f, "line {line}: {reason}")
+        write!(f, "line {}: {}", self.line, self.reason)
     }
 }

@@ -5,32 +5,31 @@ ghost use Rattle.scripting.specs.Splitting.{Blank, NextWord};
 ghost use Rattle.scripting.specs.Numerals.{Numbers};
 ghost use Rattle.scripting.specs.Calling.{verb_of};
 ghost use Rattle.scripting.specs.Arguments.{Arguments, Opened, Says};
-ghost use Rattle.scripting.specs.declared.verb.Verb.TheVariants.{Weigh, After};
+ghost use Rattle.scripting.specs.declared.verb.Verb.TheVariants.{Weigh};
 
-use crate::action::Action;
 use crate::decimal::number;
 use crate::mistake::Reason;
 use crate::verb::Verb;
 use crate::words::next_word;
+use book::call::Call;
 use command::offered::Offered;
 use std::alloc::Global;
 
 /// How many elements a shelf can be opened with.
 pub const SHELF: usize = 12544;
 
-/// What is performed.
+/// What is performed. A call owns its text or word.
 #[derive(Drop)]
 pub enum Order {
     Field(Offered),
     Open { elements: usize },
     Lend { work: usize, output: usize },
-    Call(Action),
+    Call(Call<Vec<u8>>),
 }
 
 /// What a line says. A text and the name in a load are looked up by whoever reads the lines in turn.
 #[derive(Drop)]
 pub enum Said<'a> {
-    Nothing,
     Text { name: &'a [u8], size: usize },
     Load { name: &'a [u8], to: usize },
     Order(Order),
@@ -40,10 +39,7 @@ pub enum Said<'a> {
 fn word(line: &[u8]) -> Result<(&[u8], &[u8]), Reason>
     ensures found { IfOk result (λ x. NextWord line.now x.0.now x.1.now) }
 {
-    match next_word(line) {
-        Some(found) => Ok(found),
-        None => Err(Reason::WordMissing),
-    }
+    next_word(line).ok_or(Reason::WordMissing)
 }
 
 // Whether nothing but spaces is left.
@@ -56,45 +52,19 @@ fn end(line: &[u8]) -> Result<(), Reason>
     }
 }
 
-// The number that the line is, and no more.
-fn one(line: &[u8]) -> Result<u64, Reason>
-    ensures read { IfOk result (λ n. Numbers line.now (n ∷ [])) }
+// The N numbers that the line is, and no more.
+fn numbers<const N: usize>(line: &[u8]) -> Result<[usize; N], Reason>
+    ensures read { IfOk result (λ ns. Numbers line.now ns) }
 {
-    let (first, rest) = word(line)?;
-    let first = number(first)?;
-    end(rest)?;
-    Ok(first)
-}
-
-// The two numbers that the line is.
-fn two(line: &[u8]) -> Result<(u64, u64), Reason>
-    ensures read { IfOk result (λ x. Numbers line.now (x.0 ∷ x.1 ∷ [])) }
-{
-    let (first, rest) = word(line)?;
-    let first = number(first)?;
-    let second = one(rest)?;
-    Ok((first, second))
-}
-
-// The three numbers that the line is.
-fn three(line: &[u8]) -> Result<(u64, u64, u64), Reason>
-    ensures read { IfOk result (λ x. Numbers line.now (x.0 ∷ x.1 ∷ x.2 ∷ [])) }
-{
-    let (first, rest) = word(line)?;
-    let first = number(first)?;
-    let (second, third) = two(rest)?;
-    Ok((first, second, third))
-}
-
-// A number as a letter.
-fn letter(n: u64) -> Result<u8, Reason>
-    ensures same { IfOk result (λ a. a ≡ n) }
-{
-    if n < 256 {
-        Ok(n as u8)
-    } else {
-        Err(Reason::NumberTooLarge)
+    let mut all = [0; N];
+    let mut rest = line;
+    for n in all.iter_mut() {
+        let (first, after) = word(rest)?;
+        *n = number(first)? as usize;
+        rest = after;
     }
+    end(rest)?;
+    Ok(all)
 }
 
 // The letters that the line is.
@@ -104,7 +74,7 @@ fn letters(heap: Global, line: &[u8]) -> Result<Vec<u8>, Reason>
     let mut all = Vec::new(heap);
     let mut rest = line;
     while let Some((first, after)) = next_word(rest) {
-        all.push(letter(number(first)?)?)?;
+        all.push(u8::try_from(number(first)?)?)?;
         rest = after;
     }
     Ok(all)
@@ -117,146 +87,110 @@ fn elements(line: &[u8]) -> Result<usize, Reason>
     if next_word(line).is_none() {
         return Ok(SHELF);
     }
-    let count = one(line)?;
-    if count > SHELF as u64 {
+    let [count] = numbers::<1>(line)?;
+    if count > SHELF {
         return Err(Reason::NumberTooLarge);
     }
-    Ok(count as usize)
+    Ok(count)
 }
 
 // The field of the order that the line is.
 fn field(line: &[u8]) -> Result<Offered, Reason>
     ensures read { IfOk result (λ o. Numbers line.now (q_of o ∷ [])) }
 {
-    match Offered::with_order(one(line)?) {
-        Some(offered) => Ok(offered),
-        None => Err(Reason::FieldNotOffered),
-    }
+    let [q] = numbers::<1>(line)?;
+    Ok(Offered::try_from(q as u64)?)
 }
 
 // The call of weigh, with the place and the letters that the line is.
-fn weigh(heap: Global, line: &[u8]) -> Result<Action, Reason>
+fn weigh(heap: Global, line: &[u8]) -> Result<Call<Vec<u8>>, Reason>
     ensures read { IfOk result (λ a. (verb_of a ≡ Weigh) × Arguments a line.now) }
 {
     let (first, rest) = word(line)?;
     let place = number(first)? as usize;
     let word = letters(heap, rest)?;
-    Ok(Action::Weigh { place, word })
-}
-
-// The call of after.
-fn after(line: &[u8]) -> Result<Action, Reason>
-    ensures read { IfOk result (λ a. (verb_of a ≡ After) × Arguments a line.now) }
-{
-    let (place, a, to) = three(line)?;
-    Ok(Action::After {
-        place: place as usize,
-        letter: letter(a)?,
-        to: to as usize,
-    })
+    Ok(Call::Weigh { place, word })
 }
 
 // The call of a verb that names places, and a code or a letter, and no text or word.
-fn action(heap: Global, verb: Verb, line: &[u8]) -> Result<Action, Reason>
+fn call(heap: Global, verb: Verb, line: &[u8]) -> Result<Call<Vec<u8>>, Reason>
     ensures read { IfOk result (λ a. (verb_of a ≡ verb) × Arguments a line.now) }
 {
     match verb {
         Verb::Sum => {
-            let (first, second, to) = three(line)?;
-            Ok(Action::Sum {
-                first: first as usize,
-                second: second as usize,
-                to: to as usize,
-            })
+            let [first, second, to] = numbers::<3>(line)?;
+            Ok(Call::Sum { first, second, to })
         }
         Verb::Scale => {
-            let (place, code, to) = three(line)?;
-            Ok(Action::Scale {
-                place: place as usize,
-                code,
-                to: to as usize,
-            })
+            let [place, code, to] = numbers::<3>(line)?;
+            let code = code as u64;
+            Ok(Call::Scale { place, code, to })
         }
         Verb::Multiply => {
-            let (first, second, to) = three(line)?;
-            Ok(Action::Multiply {
-                first: first as usize,
-                second: second as usize,
-                to: to as usize,
-            })
+            let [first, second, to] = numbers::<3>(line)?;
+            Ok(Call::Multiply { first, second, to })
         }
-        Verb::After => after(line),
+        Verb::After => {
+            let [place, letter, to] = numbers::<3>(line)?;
+            let letter = u8::try_from(letter)?;
+            Ok(Call::After { place, letter, to })
+        }
         Verb::Turn => {
-            let (place, to) = two(line)?;
-            Ok(Action::Turn {
-                place: place as usize,
-                to: to as usize,
-            })
+            let [place, to] = numbers::<2>(line)?;
+            Ok(Call::Turn { place, to })
         }
         Verb::Reduce => {
-            let (place, to) = two(line)?;
-            Ok(Action::Reduce {
-                place: place as usize,
-                to: to as usize,
-            })
+            let [place, to] = numbers::<2>(line)?;
+            Ok(Call::Reduce { place, to })
         }
         Verb::Weigh => weigh(heap, line),
         Verb::Compare => {
-            let (first, second) = two(line)?;
-            Ok(Action::Compare {
-                first: first as usize,
-                second: second as usize,
-            })
+            let [first, second] = numbers::<2>(line)?;
+            Ok(Call::Compare { first, second })
         }
-        Verb::Write => Ok(Action::Write {
-            place: one(line)? as usize,
-        }),
-        Verb::Clear => Ok(Action::Clear {
-            place: one(line)? as usize,
-        }),
+        Verb::Write => {
+            let [place] = numbers::<1>(line)?;
+            Ok(Call::Write { place })
+        }
+        Verb::Clear => {
+            let [place] = numbers::<1>(line)?;
+            Ok(Call::Clear { place })
+        }
         _ => Err(Reason::NoCall),
     }
 }
 
-/// What a line says.
-pub fn read_line(heap: Global, line: &[u8]) -> Result<Said<'_>, Reason>
+/// What a line says; a blank line and a comment say nothing.
+pub fn read_line(heap: Global, line: &[u8]) -> Result<Option<Said<'_>>, Reason>
     ensures says { IfOk result (λ s. Says line.now s) }
 {
     let Some((first, rest)) = next_word(line) else {
-        return Ok(Said::Nothing);
+        return Ok(None);
     };
     if let [b'#', ..] = first {
-        return Ok(Said::Nothing);
+        return Ok(None);
     }
-    let Some(verb) = Verb::named(first) else {
-        return Err(Reason::NoCall);
-    };
+    let verb = Verb::try_from(first)?;
     match verb {
-        Verb::Field => Ok(Said::Order(Order::Field(field(rest)?))),
-        Verb::Open => Ok(Said::Order(Order::Open {
-            elements: elements(rest)?,
-        })),
+        Verb::Field => Ok(Some(Said::Order(Order::Field(field(rest)?)))),
+        Verb::Open => {
+            let elements = elements(rest)?;
+            Ok(Some(Said::Order(Order::Open { elements })))
+        }
         Verb::Lend => {
-            let (work, output) = two(rest)?;
-            Ok(Said::Order(Order::Lend {
-                work: work as usize,
-                output: output as usize,
-            }))
+            let [work, output] = numbers::<2>(rest)?;
+            Ok(Some(Said::Order(Order::Lend { work, output })))
         }
         Verb::Text => {
-            let (name, size) = word(rest)?;
-            Ok(Said::Text {
-                name,
-                size: one(size)? as usize,
-            })
+            let (name, rest) = word(rest)?;
+            let [size] = numbers::<1>(rest)?;
+            Ok(Some(Said::Text { name, size }))
         }
         Verb::Load => {
-            let (name, to) = word(rest)?;
-            Ok(Said::Load {
-                name,
-                to: one(to)? as usize,
-            })
+            let (name, rest) = word(rest)?;
+            let [to] = numbers::<1>(rest)?;
+            Ok(Some(Said::Load { name, to }))
         }
-        _ => Ok(Said::Order(Order::Call(action(heap, verb, rest)?))),
+        _ => Ok(Some(Said::Order(Order::Call(call(heap, verb, rest)?)))),
     }
 }

@@ -1,16 +1,18 @@
 //! Performs a script, a request at a time, since what write wrote is shown before the next call.
-ghost use Rattle.std.specs.Prelude.{length, IfOk};
+ghost use Rattle.std.specs.Prelude.{◌≡◌, ◌*◌, ◌^◌, ◌<◌, length};
+ghost use Rattle.std.specs.Mem.{type_size};
 ghost use Rattle.book.specs.Verdicts.{unwritten};
 ghost use Rattle.shelf.specs.Views.{state, shelf_of};
 ghost use Rattle.scripting.specs.Making.{Makes};
 ghost use Rattle.scripting.specs.Mistakes.{mistakes_of};
 ghost use Rattle.scripting.specs.Judging.{Judged};
+ghost use Rattle.scripting.specs.declared.performing.Failure.TheVariants.{NoMemory};
 
-use crate::action::Action;
 use crate::mistake::Mistake;
 use crate::order::{Order, SHELF};
 use crate::outcomes::Shown;
 use crate::reading::{Entry, Line, Script, read};
+use crate::verb::Verb;
 use book::call::{Call, Request};
 use book::outcome::{Answer, Outcome};
 use book::refusal::Refusal;
@@ -21,6 +23,8 @@ use field::Field;
 use residue::{Bit, Fermat};
 use shelf::directory::Directory;
 use std::alloc::{AllocError, Global};
+use std::error::Error;
+use std::{fmt, slice};
 
 /// How many elements of work memory there are.
 pub const WORK: usize = 8192;
@@ -58,221 +62,157 @@ pub fn make<F: Field>(
         work,
         output,
         &mut verdict,
-        std::slice::from_ref(&request),
+        slice::from_ref(&request),
         &mut outcomes,
     );
     outcomes[0]
 }
 
-// Adds the line that shows what came of a call, and what it wrote.
-fn show(
+// What stays over a whole script: how much each call is given, and what was shown so far.
+#[derive(Drop)]
+struct Session {
     heap: Global,
-    shown: &mut Vec<u8>,
-    number: usize,
-    action: &Action,
-    outcome: Outcome,
-    output: &[u8],
-) -> Result<(), AllocError> {
-    let call = action.verb().name();
-    let told = Shown { outcome };
-    let line = format!(in heap; "{number} {call}: {told}\n")?;
-    shown.extend_from_slice(line.as_bytes())?;
-    if let Ok(Answer::Count(count)) = outcome {
-        shown.extend_from_slice(&output[0..count.min(output.len())])?;
-    }
-    Ok(())
+    given: Given,
+    shown: Vec<u8>,
 }
 
-// Makes every element zero.
-fn wipe<F: Field>(memory: &mut [F]) {
-    for x in memory.iter_mut() {
-        *x = F::zero();
+impl Session {
+    // Adds the line that shows what came of a call, and what it wrote.
+    fn show(
+        &mut self,
+        number: usize,
+        verb: Verb,
+        outcome: Outcome,
+        output: &[u8],
+    ) -> Result<(), AllocError> {
+        let told = Shown(outcome);
+        let line = format!(in self.heap; "{number} {verb}: {told}\n")?;
+        self.shown.extend_from_slice(line.as_bytes())?;
+        if let Ok(Answer::Count(count)) = outcome {
+            self.shown
+                .extend_from_slice(&output[..count.min(output.len())])?;
+        }
+        Ok(())
     }
-}
 
-// Performs the lines from `from` on, up to one that opens a shelf over a field.
-fn section<F: Field>(
-    heap: Global,
-    lines: &[Line],
-    from: usize,
-    shelf: &mut [F],
-    work: &mut [F],
-    output: &mut [u8],
-    given: &mut Given,
-    shown: &mut Vec<u8>,
-) -> Result<(), AllocError> {
-    let mut directory = Directory::open();
-    let mut open = shelf.len();
-    for line in lines.iter().skip(from) {
-        match &line.entry {
-            Entry::Order(Order::Field(_)) => return Ok(()),
-            Entry::Order(Order::Open { elements }) => {
-                directory = Directory::open();
-                open = (*elements).min(shelf.len());
-                wipe(shelf);
+    // Performs the lines on a shelf over F, up to one that opens a shelf over a field.
+    fn over<F: Field>(&mut self, lines: &[Line]) -> Result<(), AllocError>
+        requires elements_fit { 12544 * type_size F.row < 2 ^ 63 }
+    {
+        let mut directory = Directory::open();
+        let mut shelf = [F::zero(); SHELF];
+        let mut open = SHELF;
+        let mut work = [F::zero(); WORK];
+        let mut output = [0u8; OUTPUT];
+        for line in lines {
+            match &line.entry {
+                Entry::Order(Order::Field(_)) => return Ok(()),
+                Entry::Order(Order::Open { elements }) => {
+                    directory = Directory::open();
+                    shelf = [F::zero(); SHELF];
+                    open = (*elements).min(SHELF);
+                }
+                Entry::Order(Order::Lend { work, output }) => {
+                    self.given = Given {
+                        work: *work,
+                        output: *output,
+                    };
+                }
+                Entry::Order(Order::Call(call)) => {
+                    let outcome = make(
+                        &mut directory,
+                        &mut shelf[..open],
+                        &mut work,
+                        &mut output,
+                        call.borrowed(),
+                        self.given,
+                    );
+                    self.show(line.number, Verb::from(call), outcome, &output)?;
+                }
+                _ => {}
             }
-            Entry::Order(Order::Lend { work, output }) => {
-                *given = Given {
-                    work: *work,
-                    output: *output,
-                };
-            }
-            Entry::Order(Order::Call(action)) => {
-                let outcome = make(
-                    &mut directory,
-                    &mut shelf[0..open],
-                    work,
-                    output,
-                    action.call(),
-                    *given,
-                );
-                show(heap, shown, line.number, action, outcome, output)?;
-            }
-            _ => {}
+        }
+        Ok(())
+    }
+
+    // The same on a shelf over an offered field.
+    fn over_offered(&mut self, field: Offered, lines: &[Line]) -> Result<(), AllocError> {
+        match field {
+            Offered::Bits => self.over::<Bit>(lines),
+            Offered::Bytes => self.over::<Byte>(lines),
+            Offered::Fermat => self.over::<Fermat>(lines),
         }
     }
-    Ok(())
-}
-
-// Over GF(2).
-fn over_bits(
-    heap: Global,
-    lines: &[Line],
-    from: usize,
-    given: &mut Given,
-    shown: &mut Vec<u8>,
-) -> Result<(), AllocError> {
-    let mut shelf = [Bit::zero(); SHELF];
-    let mut work = [Bit::zero(); WORK];
-    let mut output = [0u8; OUTPUT];
-    section(
-        heap,
-        lines,
-        from,
-        &mut shelf,
-        &mut work,
-        &mut output,
-        given,
-        shown,
-    )
-}
-
-// Over GF(256).
-fn over_bytes(
-    heap: Global,
-    lines: &[Line],
-    from: usize,
-    given: &mut Given,
-    shown: &mut Vec<u8>,
-) -> Result<(), AllocError> {
-    let mut shelf = [Byte::zero(); SHELF];
-    let mut work = [Byte::zero(); WORK];
-    let mut output = [0u8; OUTPUT];
-    section(
-        heap,
-        lines,
-        from,
-        &mut shelf,
-        &mut work,
-        &mut output,
-        given,
-        shown,
-    )
-}
-
-// Over GF(65537).
-fn over_fermat(
-    heap: Global,
-    lines: &[Line],
-    from: usize,
-    given: &mut Given,
-    shown: &mut Vec<u8>,
-) -> Result<(), AllocError> {
-    let mut shelf = [Fermat::zero(); SHELF];
-    let mut work = [Fermat::zero(); WORK];
-    let mut output = [0u8; OUTPUT];
-    section(
-        heap,
-        lines,
-        from,
-        &mut shelf,
-        &mut work,
-        &mut output,
-        given,
-        shown,
-    )
 }
 
 /// Performs a script, and gives what it shows.
 pub fn perform(heap: Global, script: &Script) -> Result<Vec<u8>, AllocError> {
     let lines = script.lines.as_slice();
-    let mut shown = Vec::new(heap);
-    let mut given = Given {
+    let given = Given {
         work: WORK,
         output: OUTPUT,
     };
-    over_fermat(heap, lines, 0, &mut given, &mut shown)?;
+    let shown = Vec::new(heap);
+    let mut session = Session { heap, given, shown };
+    session.over_offered(Offered::Fermat, lines)?;
     for (i, line) in lines.iter().enumerate() {
-        match &line.entry {
-            Entry::Order(Order::Field(Offered::Bits)) => over_bits(
-                heap,
-                lines,
-                i + 1,
-                &mut given,
-                &mut shown,
-            )?,
-            Entry::Order(Order::Field(Offered::Bytes)) => over_bytes(
-                heap,
-                lines,
-                i + 1,
-                &mut given,
-                &mut shown,
-            )?,
-            Entry::Order(Order::Field(Offered::Fermat)) => over_fermat(
-                heap,
-                lines,
-                i + 1,
-                &mut given,
-                &mut shown,
-            )?,
-            _ => {}
+        if let Entry::Order(Order::Field(field)) = &line.entry {
+            session.over_offered(*field, &lines[i + 1..])?;
         }
     }
-    Ok(shown)
+    Ok(session.shown)
 }
 
 /// The lines that tell mistakes.
 pub fn tell(heap: Global, mistakes: &[Mistake]) -> Result<Vec<u8>, AllocError> {
     let mut told = Vec::new(heap);
     for mistake in mistakes {
-        let mistake = *mistake;
         let line = format!(in heap; "script: {mistake}\n")?;
         told.extend_from_slice(line.as_bytes())?;
     }
     Ok(told)
 }
 
-/// What comes of a script: what its calls show, or its mistakes, and then nothing is performed.
-#[derive(Drop)]
-pub enum Told {
-    Shown(Vec<u8>),
-    Mistaken(Vec<u8>),
+/// Why a script is not performed: it has mistakes, or there is no memory for what it shows.
+#[derive(Debug, Drop)]
+pub enum Failure {
+    Mistaken(Vec<Mistake>),
+    NoMemory(AllocError),
 }
 
-/// Performs a script unless it has a mistake.
-pub fn run(heap: Global, script: &Script) -> Result<Told, AllocError>
-    ensures judged { IfOk result (λ t. Judged t (mistakes_of script.now.lines.items)) }
+impl From<AllocError> for Failure {
+    ghost from_gives = { λ e failure. failure ≡ NoMemory e };
+
+    fn from(e: AllocError) -> Failure {
+        Failure::NoMemory(e)
+    }
+}
+
+impl fmt::Display for Failure {
+    fn fmt<W: fmt::Write>(&self, f: &mut fmt::Formatter<W>) -> fmt::Result {
+        match self {
+            Failure::Mistaken(_) => write!(f, "the script has mistakes"),
+            Failure::NoMemory(e) => write!(f, "{e}"),
+        }
+    }
+}
+
+impl Error for Failure {}
+
+/// Performs a script unless it has a mistake, and gives what its calls show.
+pub fn run(heap: Global, script: &Script) -> Result<Vec<u8>, Failure>
+    ensures judged { Judged result (mistakes_of script.now.lines.items) }
 {
     let mistakes = script.mistakes(heap)?;
     if mistakes.is_empty() {
-        Ok(Told::Shown(perform(heap, script)?))
+        Ok(perform(heap, script)?)
     } else {
-        Ok(Told::Mistaken(tell(heap, mistakes.as_slice())?))
+        Err(Failure::Mistaken(mistakes))
     }
 }
 
 /// Reads and performs a script that names no file.
-pub fn run_script(heap: Global, script: &[u8]) -> Result<Told, AllocError> {
+pub fn run_script(heap: Global, script: &[u8]) -> Result<Vec<u8>, Failure> {
     let script = read(heap, script)?;
     run(heap, &script)
 }

@@ -1,9 +1,15 @@
 //! The words that a line of a script can begin with.
-ghost use Rattle.std.specs.Prelude.{◌≡◌, MatchOption, ◌≢◌};
+ghost use Rattle.std.specs.Prelude.{◌≡◌, MatchResult, ◌≢◌, Some};
 ghost use Rattle.scripting.specs.Naming.{name_of};
+ghost use Rattle.scripting.specs.Calling.{verb_of};
+ghost use Rattle.scripting.specs.declared.verb.Verb.{Verb};
+
+use crate::mistake::Reason;
+use book::call::Call;
+use std::fmt;
 
 /// What a line says to do.
-#[derive(Clone, Copy, Debug, PartialEq)]
+#[derive(Clone, Copy, Debug, PartialEq, Eq)]
 pub enum Verb {
     Field,
     Open,
@@ -64,16 +70,50 @@ impl Verb {
             Verb::Clear => "clear",
         }
     }
+}
 
-    /// The one of this word, if there is one.
-    pub fn named(word: &[u8]) -> Option<Verb>
-        ensures by_name { MatchOption result ((v : Verb) → name_of v ≢ word.now) (λ v. name_of v ≡ word.now) }
-    {
+impl fmt::Display for Verb {
+    ghost output = { λ verb. Some (name_of verb) };
+
+    fn fmt<W: fmt::Write>(&self, f: &mut fmt::Formatter<W>) -> fmt::Result {
+        let name = self.name();
+        write!(f, "{name}")
+    }
+}
+
+/// The verb of this word, if there is one.
+impl TryFrom<&[u8]> for Verb {
+    type Error = Reason;
+
+    ghost try_from_gives = { λ word r. MatchResult r (λ v. name_of v ≡ word.now) (λ _. (v : Verb) → name_of v ≢ word.now) };
+
+    fn try_from(word: &[u8]) -> Result<Verb, Reason> {
         for verb in Verb::ALL {
             if verb.name().as_bytes() == word {
-                return Some(verb);
+                return Ok(verb);
             }
         }
-        None
+        Err(Reason::NoCall)
+    }
+}
+
+/// The verb that a script has for a call.
+impl<B> From<&Call<B>> for Verb {
+    ghost from_gives = { λ call verb. verb ≡ verb_of call.now };
+
+    fn from(call: &Call<B>) -> Verb {
+        match call {
+            Call::Load { .. } => Verb::Load,
+            Call::Sum { .. } => Verb::Sum,
+            Call::Scale { .. } => Verb::Scale,
+            Call::Multiply { .. } => Verb::Multiply,
+            Call::After { .. } => Verb::After,
+            Call::Turn { .. } => Verb::Turn,
+            Call::Reduce { .. } => Verb::Reduce,
+            Call::Weigh { .. } => Verb::Weigh,
+            Call::Compare { .. } => Verb::Compare,
+            Call::Write { .. } => Verb::Write,
+            Call::Clear { .. } => Verb::Clear,
+        }
     }
 }

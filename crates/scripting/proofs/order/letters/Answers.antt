@@ -8,7 +8,7 @@ loop-first-preserved c ns h =
     let all = vec_items c.loop-first.all in
     let n = c.in_ok-number.field-0 in
     let whole : Numbers line (all ++ n ∷ ns) = c.loop-first.invariant (n ∷ ns) (next _ _ c.in-Some.ensures.word c.in_ok-number.ensures.written h) in
-    let pushed : vec_items c.push.new.self ≡ all ++ n ∷ [] = c.in_ok-push.ensures.items ∙ ap (λ a. all ++ a ∷ []) c.in_ok-letter.ensures.same in
+    let pushed : vec_items c.push.new.self ≡ all ++ n ∷ [] = c.in_ok-push.ensures.items ∙ ap (λ a. all ++ a ∷ []) c.in_ok-try_from.ensures.1 in
     let e : vec_items c.push.new.self ++ ns ≡ all ++ n ∷ ns = ap (λ xs. xs ++ ns) pushed ∙ append_assoc all (n ∷ []) ns in
     subst (λ xs. Numbers line xs) (sym e) whole
 
