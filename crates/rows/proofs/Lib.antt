@@ -5,3 +5,4 @@ pub mod Words
 pub mod Tables
 pub mod Slices
 pub mod Splits
+pub mod Parts

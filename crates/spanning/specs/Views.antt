@@ -4,7 +4,7 @@ use Rattle.field.specs.FiniteField.{FiniteField}
 use Rattle.series.specs.Tables.{Table, Agree}
 use Rattle.series.specs.Projecting.{Spanning}
 use Rattle.rows.specs.Memory.{row_at}
-use Rattle.spanning.specs.Plan.{column_at}
+use Rattle.spanning.specs.Plan.{vector_at}
 
 -- d columns that span the columns of all words of T, within the limits of the plan
 pub record View {V : Type 0} (K : FiniteField V) (T : Table V) (d : ℕ) : Type 0 where
@@ -14,7 +14,7 @@ pub record View {V : Type 0} (K : FiniteField V) (T : Table V) (d : ℕ) : Type 
   pub few_letters : T.letters ≤ 6
   pub few_columns : d ≤ 16
 
--- memory holds such columns
-pub record Spanned {F V : Type 0} (K : FiniteField V) (value : F → V) (T : Table V) (d : ℕ) (ws : List F) : Type 0 where
+-- the slice cs holds such columns
+pub record Spanned {F V : Type 0} (K : FiniteField V) (value : F → V) (T : Table V) (d : ℕ) (cs : List F) : Type 0 where
   pub view : View K T d
-  pub held : (j : ℕ) → j < d → Agree T.states (row_at K value ws (column_at j)) (view.columns j)
+  pub held : (j : ℕ) → j < d → Agree T.states (row_at K value cs (vector_at j)) (view.columns j)

@@ -1,110 +1,107 @@
 //! The backward pass: columns that span the columns of all words, found from the end column by letters before a word.
-ghost use Rattle.std.specs.Prelude.{◌≡◌, ◌+◌, ◌<◌, ◌≤◌, length};
-ghost use Rattle.rows.specs.Tables.{Lies, table_of};
+ghost use Rattle.std.specs.Prelude.{◌≡◌, [], ◌+◌, ◌<◌, ◌≤◌, length};
+ghost use Rattle.rows.specs.Seen.{table_of};
 ghost use Rattle.spanning.specs.Views.{Spanned};
 ghost use Rattle.spanning.specs.Backward.{ColumnDue};
 
-use crate::found::Found;
-use crate::plan::{COLUMNS, ECHELON};
-use elimination::keep_row;
+use crate::{Pivots, WIDTH};
+use elimination::echelon::keep_row;
 use field::Field;
-use rows::arithmetic::matrix_times_column;
-use rows::blocks::copy_block;
-use rows::layout::TableAt;
+use rows::row::matrix_times_column;
+use rows::table::TableRef;
 
 // Tries the column of word i with one letter before it.
 fn try_column<F: Field>(
-    work: &mut [F],
-    found: &mut Found,
+    columns: &mut [F],
+    echelon: &mut [F],
+    pivots: &mut Pivots,
     i: usize,
     letter: usize,
-    shelf: &[F],
-    table: TableAt,
+    table: TableRef<'_, F>,
 )
-    requires lies { Lies (length shelf.now) table }
-    requires room { 8192 ≤ length work.old }
-    requires letter_of_table { (1 ≤ letter) × (letter ≤ table.letters) }
-    requires word_found { i < found.old.count }
-    requires due { ColumnDue F.field F.value (table_of F.field F.value shelf.now table) i letter found.old work.old }
-    ensures next_due { ColumnDue F.field F.value (table_of F.field F.value shelf.now table) i (letter + 1) found.new work.new }
-    ensures word_found { i < found.new.count }
-    ensures length_kept { length work.new ≡ length work.old }
+    requires letter_of_table { (1 ≤ letter) × (letter ≤ table.shape.letters) }
+    requires word_found { i < length pivots.old.items }
+    requires due { ColumnDue F.field F.value (table_of F.field F.value table) i letter pivots.old.items columns.old echelon.old }
+    ensures next_due { ColumnDue F.field F.value (table_of F.field F.value table.entry) i (letter + 1) pivots.new.items columns.new echelon.new }
+    ensures word_found { i < length pivots.new.items }
 {
-    let count = found.count;
-    let to = COLUMNS + count * 16;
-    matrix_times_column(
-        work,
-        COLUMNS + i * 16,
-        to,
-        shelf,
-        table.matrix(letter),
-        table.states,
-    );
-    match keep_row(work, to, ECHELON, count, table.states, &found.pivots) {
-        None => {}
-        Some(pivot) => found.push(pivot),
+    let n = table.states();
+    let (found, rest) = columns.split_at_mut(pivots.len() * WIDTH);
+    let next = &mut rest[..n];
+    matrix_times_column(table.matrix(letter), &found[i * WIDTH..i * WIDTH + n], next);
+    if let Some(pivot) = keep_row(next, echelon, pivots) {
+        pivots.push(pivot);
     }
 }
 
 // Tries the column of word i with each letter before it.
-fn try_columns<F: Field>(work: &mut [F], found: &mut Found, i: usize, shelf: &[F], table: TableAt)
-    requires lies { Lies (length shelf.now) table }
-    requires room { 8192 ≤ length work.old }
-    requires word_found { i < found.old.count }
-    requires due { ColumnDue F.field F.value (table_of F.field F.value shelf.now table) i 1 found.old work.old }
-    ensures all_tried { ColumnDue F.field F.value (table_of F.field F.value shelf.now table) i (table.letters + 1) found.new work.new }
-    ensures word_found { i < found.new.count }
-    ensures length_kept { length work.new ≡ length work.old }
+fn try_columns<F: Field>(
+    columns: &mut [F],
+    echelon: &mut [F],
+    pivots: &mut Pivots,
+    i: usize,
+    table: TableRef<'_, F>,
+)
+    requires word_found { i < length pivots.old.items }
+    requires due { ColumnDue F.field F.value (table_of F.field F.value table) i 1 pivots.old.items columns.old echelon.old }
+    ensures all_tried { ColumnDue F.field F.value (table_of F.field F.value table.entry) i (table.entry.shape.letters + 1) pivots.new.items columns.new echelon.new }
+    ensures word_found { i < length pivots.new.items }
 {
-    for a in 1..table.letters + 1 {
-        try_column(work, found, i, a, shelf, table);
+    for letter in 1..=table.letters() {
+        try_column(columns, echelon, pivots, i, letter, table);
     }
 }
 
 // Tries the column of each word with each letter before it, those too that are found on the way.
-fn close_columns<F: Field>(work: &mut [F], found: &mut Found, shelf: &[F], table: TableAt)
-    requires lies { Lies (length shelf.now) table }
-    requires room { 8192 ≤ length work.old }
-    requires due { ColumnDue F.field F.value (table_of F.field F.value shelf.now table) 0 1 found.old work.old }
-    ensures spanned { Spanned F.field F.value (table_of F.field F.value shelf.now table) found.new.count work.new }
-    ensures few { found.new.count ≤ table.states }
-    ensures length_kept { length work.new ≡ length work.old }
+fn close_columns<F: Field>(
+    columns: &mut [F],
+    echelon: &mut [F],
+    pivots: &mut Pivots,
+    table: TableRef<'_, F>,
+)
+    requires due { ColumnDue F.field F.value (table_of F.field F.value table) 0 1 pivots.old.items columns.old echelon.old }
+    ensures spanned { Spanned F.field F.value (table_of F.field F.value table.entry) (length pivots.new.items) columns.new }
+    ensures few { length pivots.new.items ≤ table.entry.shape.states }
 {
+    // The bound grows while the loop runs.
     let mut i = 0;
-    while i < found.count {
-        try_columns(work, found, i, shelf, table);
+    while i < pivots.len() {
+        try_columns(columns, echelon, pivots, i, table);
         i += 1;
     }
 }
 
 // Tries the end column, which is the empty word's.
-fn try_end<F: Field>(work: &mut [F], found: &mut Found, shelf: &[F], table: TableAt)
-    requires lies { Lies (length shelf.now) table }
-    requires room { 8192 ≤ length work.old }
-    requires none_found { found.old.count ≡ 0 }
-    ensures due { ColumnDue F.field F.value (table_of F.field F.value shelf.now table) 0 1 found.new work.new }
-    ensures length_kept { length work.new ≡ length work.old }
+fn try_end<F: Field>(
+    columns: &mut [F],
+    echelon: &mut [F],
+    pivots: &mut Pivots,
+    table: TableRef<'_, F>,
+)
+    requires room { (272 ≤ length columns.old) × (272 ≤ length echelon.old) }
+    requires none_found { pivots.old.items ≡ [] }
+    ensures due { ColumnDue F.field F.value (table_of F.field F.value table.entry) 0 1 pivots.new.items columns.new echelon.new }
 {
-    copy_block(shelf, table.end(), work, COLUMNS, table.states);
-    match keep_row(work, COLUMNS, ECHELON, 0, table.states, &found.pivots) {
-        None => {}
-        Some(pivot) => found.push(pivot),
+    let first = &mut columns[..table.states()];
+    first.copy_from_slice(table.end());
+    if let Some(pivot) = keep_row(first, echelon, pivots) {
+        pivots.push(pivot);
     }
 }
 
-/// Finds columns that span the columns of all words, and answers how many there are.
-pub fn spanning_columns<F: Field>(work: &mut [F], shelf: &[F], table: TableAt) -> usize
-    requires lies { Lies (length shelf.now) table }
-    requires room { 8192 ≤ length work.old }
-    ensures spanned { Spanned F.field F.value (table_of F.field F.value shelf.now table) result work.new }
-    ensures few { result ≤ table.states }
-    ensures length_kept { length work.new ≡ length work.old }
+/// Finds columns that span the columns of all words, and answers how many there are. Each takes 16 elements of `columns`, where
+/// there is room for one more than there can be; `echelon` is for the search.
+pub fn spanning_columns<F: Field>(
+    columns: &mut [F],
+    echelon: &mut [F],
+    table: TableRef<'_, F>,
+) -> usize
+    requires room { (272 ≤ length columns.old) × (272 ≤ length echelon.old) }
+    ensures spanned { Spanned F.field F.value (table_of F.field F.value table.entry) result columns.new }
+    ensures few { result ≤ table.entry.shape.states }
 {
-    let mut found = Found {
-        count: 0,
-        pivots: [0; 32],
-    };
-    try_end(work, &mut found, shelf, table);
-    close_columns(work, &mut found, shelf, table);
-    found.count
+    let mut pivots = Pivots::new();
+    try_end(columns, echelon, &mut pivots, table);
+    close_columns(columns, echelon, &mut pivots, table);
+    pivots.len()
 }

@@ -1,7 +1,13 @@
-//! The backward pass of a reduction, which finds columns that span the columns of all words, and where a reduction keeps
-//! what it finds.
+//! The backward pass of a reduction, which finds columns that span the columns of all words. What a reduction finds lies in slices
+//! that are lent, apart from each other: the checker does not cover a struct that holds several of them and is lent itself.
 #![tactic(auto)]
 
+use arrayvec::ArrayVec;
+
 pub mod backward;
-pub mod found;
-pub mod plan;
+
+/// How many elements a column or row of at most 16 takes.
+pub const WIDTH: usize = 16;
+
+/// The pivots of the rows in echelon form, one for each vector that is found.
+pub type Pivots = ArrayVec<usize, 32>;

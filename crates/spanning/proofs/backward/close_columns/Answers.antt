@@ -1,28 +1,20 @@
-use Rattle.std.proofs.Common.{◌∙◌, arith}
-use Rattle.rows.specs.Tables.{table_of}
+use Rattle.std.proofs.Common.{length, arith}
+use Rattle.rows.specs.Seen.{table_of}
 use Rattle.spanning.proofs.SpanningColumns.{due_next, due_done}
 use Rattle.spanning.proofs.backward.close_columns.Goals as goal
 
 pub loop-i-preserved : goal.loop-i-preserved
 loop-i-preserved g c =
     let K = g.F.Field.field in let v = g.F.Field.value in
-    let a = c.args in
-    let lies = c.requires.lies in
-    let tried = c.try_columns in (
-      due_next K v (table_of K v a.shelf.now a.table) lies.few_states lies.few_letters c.loop-i.i tried.new.found.count tried.new.found.pivots tried.new.work tried.ensures.word_found tried.ensures.all_tried,
-      tried.ensures.length_kept ∙ c.loop-i.invariant.1,
-    )
+    let t = c.args.table in
+    let tried = c.try_columns in
+    due_next K v (table_of K v t) t.shape.few_states t.shape.few_letters c.loop-i.i (length tried.new.pivots.items) tried.new.pivots.items tried.new.columns tried.new.echelon tried.ensures.word_found tried.ensures.all_tried
 
-pub returns : goal.returns
-returns g c =
+pub returns-clause-spanned : goal.returns-clause-spanned
+returns-clause-spanned g c =
     let K = g.F.Field.field in let v = g.F.Field.value in
-    let a = c.args in
-    let lies = c.requires.lies in
-    let due = c.loop-i.invariant.0 in
+    let t = c.args.table in
+    let due = c.loop-i.invariant in
     let upto = due.upto in
-    let found = c.loop-i.found in
-    record {
-      spanned = due_done K v (table_of K v a.shelf.now a.table) lies.few_states lies.few_letters c.loop-i.i found.count found.pivots c.loop-i.work (omega arith) due;
-      few = due.few;
-      length_kept = c.loop-i.invariant.1;
-    }
+    let ps = c.loop-i.pivots.items in
+    due_done K v (table_of K v t) t.shape.few_states t.shape.few_letters c.loop-i.i (length ps) ps c.loop-i.columns c.loop-i.echelon (omega arith) due
