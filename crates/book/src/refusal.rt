@@ -2,9 +2,10 @@
 ghost use Rattle.std.specs.Prelude.{◌≡◌, Some};
 ghost use Rattle.book.specs.Refusals.{refusal_number, refusal_position};
 ghost use Rattle.book.specs.Reasons.{refusal_reason};
-ghost use Rattle.book.specs.declared.refusal.Refusal.TheVariants.{Unreadable};
+ghost use Rattle.book.specs.declared.refusal.Refusal.TheVariants.{LetterOutside as LetterRefused, Unreadable};
 
 use faults::LoadFault;
+use rows::weight::LetterOutside;
 use std::fmt;
 
 /// Why a call is refused. A letter outside tells its position in the word, from 1; an unreadable text tells line and
@@ -28,6 +29,16 @@ impl From<LoadFault> for Refusal {
 
     fn from(found: LoadFault) -> Refusal {
         Refusal::Unreadable(found)
+    }
+}
+
+impl From<LetterOutside> for Refusal {
+    ghost from_gives = { λ letter r. r ≡ LetterRefused letter.position };
+
+    fn from(letter: LetterOutside) -> Refusal {
+        Refusal::LetterOutside {
+            position: letter.position,
+        }
     }
 }
 

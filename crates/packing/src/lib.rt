@@ -11,7 +11,7 @@ use book::refusal::Refusal;
 use book::verdict::Verdict;
 use field::Field;
 use shelf::directory::Directory;
-use shelf::size::Size;
+use rows::table::Shape;
 
 pub mod packed;
 
@@ -19,7 +19,7 @@ pub mod packed;
 fn states(directory: &Directory, place: usize) -> usize
     ensures told { result ≡ states_of (at_place empty (map entry_of directory.now.entries) place) }
 {
-    directory.size(place).map_or(0, Size::states)
+    directory.shape(place).map_or(0, Shape::states)
 }
 
 /// Reads the text of a table, reduces the table, compares the two, and writes the text of the reduced form to the front of

@@ -6,3 +6,4 @@ pub mod Tables
 pub mod Slices
 pub mod Splits
 pub mod Parts
+pub mod Shapes

@@ -1,10 +1,9 @@
 -- Entries by place. Assumes nothing.
 use Rattle.std.proofs.Common.{◌≡◌, ℕ, zero, suc, ◌+◌, ◌-◌, ◌≤◌, List, get_or, set, ap, subst, arith}
 use Rattle.rows.specs.Layout.{table_size}
-use Rattle.rows.specs.Tables.{Lies}
-use Rattle.rows.specs.declared.layout.TableAt.{TableAt}
-use Rattle.text.specs.Texts.{Limits}
-use Rattle.text.proofs.Limits.{block_fits}
+use Rattle.rows.specs.declared.table.Shape.{Shape}
+use Rattle.rows.specs.declared.table.TableRef.{TableRef}
+use Rattle.rows.proofs.Shapes.{shape_fits}
 use Rattle.book.specs.Shelves.{Entry, empty, Place, at_place, with_place, begins}
 use Rattle.book.specs.declared.refusal.Refusal.{Refusal}
 use Rattle.book.specs.declared.refusal.Refusal.TheVariants.{PlaceEmpty}
@@ -17,8 +16,8 @@ place_of x p e = subst Place e x.within
 
 -- what is found at a place, or that nothing is, told of its number
 module _ (es : List Entry) (x : PlaceCode) (p : ℕ) (e : x.number ≡ p) where
-  pub found_at : (len : ℕ) (t : TableAt) → Found es len x.number t → Found es len p t
-  found_at len t h = subst (λ n. Found es len n t) e h
+  pub found_at : {F : Type 0} (memory : List F) (t : TableRef F) → Found es memory x.number t → Found es memory p t
+  found_at memory t h = subst (λ n. Found es memory n t) e h
 
   pub empty_at : (f : Refusal) → (f ≡ PlaceEmpty) × (at_place empty es x.number ≡ empty) → (f ≡ PlaceEmpty) × (at_place empty es p ≡ empty)
   empty_at f h = (h.0, subst (λ n. at_place empty es n ≡ empty) e h.1)
@@ -32,12 +31,5 @@ with_set xs zero x l = absurd (omega arith)
 with_set xs (suc i) x l = ap (λ j. set xs j x) (omega arith)
 
 -- a table of a place lies in shelf memory
-pub place_lies : (t : TableAt) (p len : ℕ) → t.base ≡ begins p → Place p → 12544 ≤ len → Limits t.states t.letters → Lies len t
-place_lies t p len e h l m = record { few_states = m.states; some_letter = m.some_letter; few_letters = m.letters; within = omega (arith, block_fits t.states t.letters m, e, h.0, h.1) }
-
--- a table that lies somewhere is within the limits, and has room at the front of work memory
-pub lies_limits : (len : ℕ) (t : TableAt) → Lies len t → Limits t.states t.letters
-lies_limits len t l = record { states = l.few_states; some_letter = l.some_letter; letters = l.few_letters }
-
-pub front_room : (len work : ℕ) (t : TableAt) → Lies len t → 8192 ≤ work → 0 + table_size t.states t.letters ≤ work
-front_room len work t l h = omega (arith, block_fits t.states t.letters (lies_limits len t l))
+pub place_fits : (z : Shape) (p len base : ℕ) → base ≡ begins p → Place p → 12544 ≤ len → base + table_size z.states z.letters ≤ len
+place_fits z p len base e h l = omega (arith, shape_fits z, e, h.0, h.1)

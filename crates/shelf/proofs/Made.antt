@@ -1,12 +1,13 @@
 -- A table that is built in work memory and copied to its place. Assumes nothing.
-use Rattle.std.proofs.Common.{◌≡◌, ℕ, List, map, length, Result, sym, refl, ap, ◌∙◌, subst, subst₂}
+use Rattle.std.proofs.Common.{◌≡◌, ℕ, List, map, length, Result, sym, refl, ap, ap₂, ◌∙◌, subst, subst₂}
 use Rattle.std.specs.Result.{IsErrAnd}
 use Rattle.std.proofs.lemmas.Result.{err_from_is_err_and}
 use Rattle.field.specs.FiniteField.{FiniteField}
 use Rattle.series.specs.Tables.{Table, SameTable}
 use Rattle.rows.specs.Layout.{table_at}
-use Rattle.rows.specs.Tables.{table_of}
-use Rattle.rows.specs.declared.layout.TableAt.{TableAt}
+use Rattle.rows.specs.Seen.{table_of, HoldsTable}
+use Rattle.rows.specs.declared.table.Shape.{Shape}
+use Rattle.rows.specs.declared.table.TableRef.{TableRef}
 use Rattle.book.specs.Shelves.{Lent, State, begins, states_of, letters_of, table}
 use Rattle.book.specs.Calls.{Call}
 use Rattle.book.specs.Refusing.{Refuses}
@@ -24,14 +25,22 @@ same_refl R = record { states = refl; letters = refl; start = λ i l. refl; step
 
 module _ {V : Type 0} (K : FiniteField V) {F : Type 0} (v : F → V) where
   -- the table that is found at a place is the one that the shelf has there
-  pub table_found : (es : List EntryCode) (mem : List F) (len p : ℕ) (t : TableAt) → Found (map entry_of es) len p t → table_of K v mem t ≡ table K v (shelf_of es mem) p
-  table_found es mem len p t f = ap (λ b. table_at K v mem b t.states t.letters) f.begins_there ∙ ap (λ e. table_at K v mem (begins p) (states_of e) (letters_of e)) (sym f.told)
+  pub table_found : (es : List EntryCode) (mem : List F) (p : ℕ) (t : TableRef F) → Found (map entry_of es) mem p t → table_of K v t ≡ table K v (shelf_of es mem) p
+  table_found es mem p t f = ap₂ (λ m b. table_at K v m b t.shape.states t.shape.letters) f.in_memory f.begins_there ∙ ap (λ e. table_at K v mem (begins p) (states_of e) (letters_of e)) (sym f.told)
+
+  -- a table seen at the front of a slice
+  pub table_in_front : (t : TableRef F) (xs : List F) (z : Shape) → t.shape ≡ z → (t.memory.now ≡ xs) × (t.base ≡ 0) → table_of K v t ≡ table_at K v xs 0 z.states z.letters
+  table_in_front t xs z e (m, b) = ap₂ (λ u i. table_at K v u i t.shape.states t.shape.letters) m b ∙ ap (λ y. table_at K v xs 0 y.states y.letters) e
+
+  -- a table that a slice holds, seen there
+  pub seen_held : (t : TableRef F) (xs : List F) (z : Shape) (T : Table V) → t.shape ≡ z → (t.memory.now ≡ xs) × (t.base ≡ 0) → z.states ≡ T.states → z.letters ≡ T.letters → HoldsTable K v T xs → SameTable (table_of K v t) T
+  seen_held t xs z T e front n k h = subst (λ S. SameTable S T) (sym (table_in_front t xs z e front ∙ ap₂ (λ i j. table_at K v xs 0 i j) n k)) h.same
 
   -- built in work memory, copied, and told in the entry: made
-  pub made : (es es' : List EntryCode) (mem mem' work work' : List F) (to n k : ℕ) (R R' : Table V) → SameTable (table_at K v work' 0 n k) R → R ≡ R' → {at : ℕ} → at ≡ to
-      → ((l : Lent) (T : Table V) → SameTable (table_at K v work' 0 n k) T → Makes K v (lending (shelf_of es mem) l) at T (lending (shelf_of es' mem') l))
+  pub made : (es es' : List EntryCode) (mem mem' work work' : List F) (to : ℕ) (M R R' : Table V) → SameTable M R → R ≡ R' → {at : ℕ} → at ≡ to
+      → ((l : Lent) (T : Table V) → SameTable M T → Makes K v (lending (shelf_of es mem) l) at T (lending (shelf_of es' mem') l))
       → length work' ≡ length work → (out : List ℕ) (verdict : Verdict) → Makes K v (state es mem (length work) out verdict) to R' (state es' mem' (length work') out verdict)
-  made es es' mem mem' work work' to n k R R' same e there kept l out verdict =
+  made es es' mem mem' work work' to M R R' same e there kept l out verdict =
       subst₂ (λ w T. Makes K v (state es mem (length work) out verdict) to T (state es' mem' w out verdict)) (sym l) e
       (let lent : Lent = record { work = length work; output = out; verdict = verdict } in subst (λ p. Makes K v (lending (shelf_of es mem) lent) p R (lending (shelf_of es' mem') lent)) there (kept lent R same))
 

@@ -1,14 +1,13 @@
 -- What the checks that calls have in common find. Assumes nothing.
 use Rattle.std.specs.Prelude.{◌≡◌, ℕ, ◌<◌, ◌≤◌, List, Result, MatchResult}
 use Rattle.field.specs.FiniteField.{FiniteField}
-use Rattle.rows.specs.Tables.{Lies}
-use Rattle.rows.specs.declared.layout.TableAt.{TableAt}
+use Rattle.rows.specs.declared.table.TableRef.{TableRef}
 use Rattle.book.specs.Shelves.{Entry, empty, filled, State, at_place, begins}
 use Rattle.book.specs.Calls.{Call, sum, multiply, compare, Among, Names, sources, results}
 use Rattle.book.specs.Refusals.{refusal_number}
 use Rattle.book.specs.Refusing.{asks, Meets, Refuses}
 use Rattle.book.specs.declared.refusal.Refusal.{Refusal}
-use Rattle.shelf.specs.declared.pair.TwoTables.{TwoTables}
+use Rattle.walk.specs.declared.pairs.Pair.{Pair}
 
 -- the call reads the places ps, names besides them only places of qs, and asks for all of shelf memory and so many elements of work memory
 pub record Reads (c : Call) (ps qs : List ℕ) (work : ℕ) : Type 0 where
@@ -27,11 +26,11 @@ pub data Pairs : Call → ℕ → ℕ → ℕ → Type 0 where
 abbrev pub Checked : {V : Type 0} → FiniteField V → {F T : Type 0} → State F → Call → ℕ → Result T Refusal → Type 0
 Checked K s c n r = MatchResult r (λ _. (o : Refusal) → Meets K s c o → n < refusal_number o) (Refuses K s c)
 
--- t is where the table lies that the entries tell of place p, in a slice of so many elements
-pub record Found (entries : List Entry) (len p : ℕ) (t : TableAt) : Type 0 where
-  pub told : at_place empty entries p ≡ filled t.states t.letters
+-- t is the table that the entries tell of place p, in shelf memory
+pub record Found {F : Type 0} (entries : List Entry) (memory : List F) (p : ℕ) (t : TableRef F) : Type 0 where
+  pub told : at_place empty entries p ≡ filled t.shape.states t.shape.letters
+  pub in_memory : t.memory.now ≡ memory
   pub begins_there : t.base ≡ begins p
-  pub lies : Lies len t
 
 -- room to make a table
 pub record Room (len work : ℕ) : Type 0 where
@@ -39,7 +38,6 @@ pub record Room (len work : ℕ) : Type 0 where
   pub working : 8192 ≤ work
 
 -- two tables of one letter count
-pub record FoundBoth (entries : List Entry) (len p q : ℕ) (both : TwoTables) : Type 0 where
-  pub left : Found entries len p both.left
-  pub right : Found entries len q both.right
-  pub same_letters : both.left.letters ≡ both.right.letters
+pub record FoundBoth {F : Type 0} (entries : List Entry) (memory : List F) (p q : ℕ) (both : Pair F) : Type 0 where
+  pub left : Found entries memory p both.left
+  pub right : Found entries memory q both.right

@@ -8,17 +8,17 @@ use Rattle.book.specs.declared.verdict.Kind.TheVariants as kinds
 use Rattle.book.specs.declared.verdict.Verdict.{Verdict}
 use Rattle.book.specs.declared.outcome.Answer.{Answer}
 use Rattle.book.specs.Outcomes.{Outcome}
-use Rattle.shelf.specs.declared.size.Size.{Size}
+use Rattle.rows.specs.declared.table.Shape.{Shape}
 use Rattle.shelf.specs.declared.entry.Entry.{Entry as EntryCode}
 
--- an entry by the size that it holds, if it holds one
-abbrev pub entry_from : Option Size → Entry
+-- an entry by the shape that it holds, if it holds one
+abbrev pub entry_from : Option Shape → Entry
 entry_from None = empty
 entry_from (Some z) = filled z.states z.letters
 
 -- the entry that a value of the code's type tells
 abbrev pub entry_of : EntryCode → Entry
-entry_of e = entry_from e.size
+entry_of e = entry_from e.shape
 
 -- a shelf: the directory's entries and shelf memory
 abbrev pub shelf_of : {F : Type 0} → List EntryCode → List F → Shelf F

@@ -8,11 +8,11 @@ ghost use Rattle.shelf.specs.Views.{entry_of, state};
 ghost use Rattle.shelf.specs.Checking.{Reads, Pairs, Checked, Found, FoundBoth, Room};
 
 use crate::directory::Directory;
-use crate::pair::TwoTables;
 use crate::place::Place;
 use book::refusal::Refusal;
 use field::Field;
-use rows::layout::TableAt;
+use rows::table::TableRef;
+use walk::pairs::Pair;
 
 /// How many elements of shelf memory a call asks for: eight places of 1,568.
 pub const SHELF: usize = 12544;
@@ -34,61 +34,61 @@ pub fn room(shelf: usize, work: usize) -> Result<(), Refusal>
 }
 
 impl Directory {
-    /// Where the table at a place lies in shelf memory.
-    pub(crate) fn table(&self, shelf: usize, place: Place) -> Result<TableAt, Refusal>
-        requires shelf_whole { 12544 ≤ shelf }
-        ensures found_or_refused { MatchResult result (λ t. Found (map entry_of self.now.entries) shelf place.number t) (λ f. (f ≡ PlaceEmpty) × (at_place empty (map entry_of self.now.entries) place.number ≡ empty)) }
+    /// The table at a place of shelf memory.
+    pub(crate) fn table<'a, F: Field>(
+        &self,
+        shelf: &'a [F],
+        place: Place,
+    ) -> Result<TableRef<'a, F>, Refusal>
+        requires shelf_whole { 12544 ≤ length shelf.now }
+        ensures found_or_refused { MatchResult result (λ t. Found (map entry_of self.now.entries) shelf.now place.number t) (λ f. (f ≡ PlaceEmpty) × (at_place empty (map entry_of self.now.entries) place.number ≡ empty)) }
     {
-        match self.size_at(place) {
+        match self.shape_at(place) {
             None => Err(Refusal::PlaceEmpty),
-            Some(size) => Ok(TableAt {
-                base: place.begins(),
-                states: size.states(),
-                letters: size.letters(),
-            }),
+            Some(shape) => Ok(TableRef::at(shelf, place.begins(), shape)),
         }
     }
 
     /// The checks of a call that reads one table and names one place more, which is told with the table.
-    pub(crate) fn one_table<F: Field>(
+    pub(crate) fn one_table<'a, F: Field>(
         &self,
-        shelf: &[F],
+        shelf: &'a [F],
         work: &[F],
         place: usize,
         to: usize,
-    ) -> Result<(TableAt, Place), Refusal>
+    ) -> Result<(TableRef<'a, F>, Place), Refusal>
         ensures checked { (c : Call) (out : List ℕ) (v : Verdict) → Reads c (place ∷ []) (to ∷ []) 8192 → Checked F.field (state self.now.entries shelf.now (length work.now) out v) c 4 result }
-        ensures found { IfOk result (λ r. Found (map entry_of self.now.entries) (length shelf.now) place r.0 × (r.1.number ≡ to) × Room (length shelf.now) (length work.now)) }
+        ensures found { IfOk result (λ r. Found (map entry_of self.now.entries) shelf.now place r.0 × (r.1.number ≡ to) × Room (length shelf.now) (length work.now)) }
     {
         let place = Place::try_from(place)?;
         let to = Place::try_from(to)?;
         room(shelf.len(), work.len())?;
-        let table = self.table(shelf.len(), place)?;
+        let table = self.table(shelf, place)?;
         Ok((table, to))
     }
 
     /// The checks of a call that reads two tables, which have to have one letter count, and names one place more,
     /// which is told with the tables.
-    pub(crate) fn two_tables<F: Field>(
+    pub(crate) fn two_tables<'a, F: Field>(
         &self,
-        shelf: &[F],
+        shelf: &'a [F],
         work: &[F],
         first: usize,
         second: usize,
         to: usize,
-    ) -> Result<(TwoTables, Place), Refusal>
+    ) -> Result<(Pair<'a, F>, Place), Refusal>
         ensures checked { (c : Call) (out : List ℕ) (v : Verdict) → Pairs c first second to → Checked F.field (state self.now.entries shelf.now (length work.now) out v) c 5 result }
-        ensures found { IfOk result (λ r. FoundBoth (map entry_of self.now.entries) (length shelf.now) first second r.0 × (r.1.number ≡ to) × Room (length shelf.now) (length work.now)) }
+        ensures found { IfOk result (λ r. FoundBoth (map entry_of self.now.entries) shelf.now first second r.0 × (r.1.number ≡ to) × Room (length shelf.now) (length work.now)) }
     {
         let first = Place::try_from(first)?;
         let second = Place::try_from(second)?;
         let to = Place::try_from(to)?;
         room(shelf.len(), work.len())?;
-        let left = self.table(shelf.len(), first)?;
-        let right = self.table(shelf.len(), second)?;
-        if left.letters != right.letters {
+        let left = self.table(shelf, first)?;
+        let right = self.table(shelf, second)?;
+        if left.letters() != right.letters() {
             return Err(Refusal::LettersDiffer);
         }
-        Ok((TwoTables { left, right }, to))
+        Ok((Pair { left, right }, to))
     }
 }

@@ -5,7 +5,7 @@ ghost use Rattle.shelf.specs.Views.{entry_of, entry_from};
 
 use crate::entry::Entry;
 use crate::place::Place;
-use crate::size::Size;
+use rows::table::Shape;
 
 /// Eight entries, of which only the calls on the shelf change any.
 #[derive(Clone, Copy)]
@@ -24,18 +24,18 @@ impl Directory {
         }
     }
 
-    /// The size of the table at a place, or nothing where there is none: an empty place, or one outside 1 to 8.
-    pub fn size(&self, place: usize) -> Option<Size>
+    /// The shape of the table at a place, or nothing where there is none: an empty place, or one outside 1 to 8.
+    pub fn shape(&self, place: usize) -> Option<Shape>
         ensures told { at_place empty (map entry_of self.now.entries) place ≡ entry_from result }
     {
-        self.size_at(Place::try_from(place).ok()?)
+        self.shape_at(Place::try_from(place).ok()?)
     }
 
     // The same of a place that is known to be one.
-    pub(crate) fn size_at(&self, place: Place) -> Option<Size>
+    pub(crate) fn shape_at(&self, place: Place) -> Option<Shape>
         ensures told { at_place empty (map entry_of self.now.entries) place.number ≡ entry_from result }
     {
-        self.entries[place.index()].size()
+        self.entries[place.index()].shape()
     }
 
     /// Changes the entry of one place, and no other.

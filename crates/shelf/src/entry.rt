@@ -1,29 +1,29 @@
 //! What the directory tells of a place.
 ghost use Rattle.std.specs.Prelude.{◌≡◌, Some};
 
-use crate::size::Size;
+use rows::table::Shape;
 
-/// Empty, or the size of the table at the place.
+/// Empty, or the shape of the table at the place.
 #[derive(Clone, Copy)]
 pub struct Entry {
-    size: Option<Size>,
+    shape: Option<Shape>,
 }
 
 impl Entry {
     /// The entry of a place without a table.
-    pub const EMPTY: Entry = Entry { size: None };
+    pub const EMPTY: Entry = Entry { shape: None };
 
-    /// The entry of a place with a table of this size.
-    pub fn of(size: Size) -> Entry
-        ensures holds { result.size ≡ Some size }
+    /// The entry of a place with a table of this shape.
+    pub fn of(shape: Shape) -> Entry
+        ensures holds { result.shape ≡ Some shape }
     {
-        Entry { size: Some(size) }
+        Entry { shape: Some(shape) }
     }
 
-    /// The size of the table, if there is one.
-    pub fn size(self) -> Option<Size>
-        ensures told { result ≡ self.size }
+    /// The shape of the table, if there is one.
+    pub fn shape(self) -> Option<Shape>
+        ensures told { result ≡ self.shape }
     {
-        self.size
+        self.shape
     }
 }

@@ -1,9 +1,8 @@
 //! The calls that make a table at a place. It is built at the front of work memory and copied last, so that it may be
 //! made of the table that it replaces, and a refusal writes nothing.
-ghost use Rattle.std.specs.Prelude.{ℕ, List, length};
+ghost use Rattle.std.specs.Prelude.{ℕ, ◌≤◌, List, length};
 ghost use Rattle.series.specs.Tables.{Table, SameTable};
-ghost use Rattle.rows.specs.Layout.{table_at};
-ghost use Rattle.text.specs.Texts.{Limits};
+ghost use Rattle.rows.specs.Seen.{table_of};
 ghost use Rattle.book.specs.Shelves.{Lent};
 ghost use Rattle.book.specs.Using.{lending};
 ghost use Rattle.book.specs.Calls.{load, sum, scale, multiply, after, turn, reduce};
@@ -11,45 +10,27 @@ ghost use Rattle.book.specs.Doing.{Makes, Does};
 ghost use Rattle.book.specs.declared.verdict.Verdict.{Verdict};
 ghost use Rattle.book.specs.declared.outcome.Answer.TheVariants.{Done};
 ghost use Rattle.shelf.specs.Views.{shelf_of, state, outcome_by};
-ghost use Rattle.shelf.specs.Checking.{Room};
 
 use crate::checks::room;
 use crate::directory::Directory;
 use crate::entry::Entry;
 use crate::place::Place;
-use crate::size::Size;
 use book::refusal::Refusal;
 use field::Field;
 use operations::{addition, adjusting, multiplication, turning};
-use rows::layout::TableAt;
+use rows::table::{Shape, TableRef};
 use text::table::read_table;
 
 impl Directory {
-    // The finished table at the front of work memory, copied to a place, whose entry then tells its size.
-    fn keep<F: Field>(
-        &mut self,
-        shelf: &mut [F],
-        work: &[F],
-        to: Place,
-        states: usize,
-        letters: usize,
-    )
-        requires room { Room (length shelf.old) (length work.now) }
-        requires limits { Limits states letters }
-        ensures kept { (l : Lent) (R : Table F.Value) → SameTable (table_at F.field F.value work.now 0 states letters) R → Makes F.field F.value (lending (shelf_of self.old.entries shelf.old) l) to.number R (lending (shelf_of self.new.entries shelf.new) l) }
+    // A finished table, copied to a place, whose entry then tells its shape.
+    fn keep<F: Field>(&mut self, shelf: &mut [F], made: TableRef<'_, F>, to: Place)
+        requires shelf_whole { 12544 ≤ length shelf.old }
+        ensures kept { (l : Lent) (R : Table F.Value) → SameTable (table_of F.field F.value made.entry) R → Makes F.field F.value (lending (shelf_of self.old.entries shelf.old) l) to.number R (lending (shelf_of self.new.entries shelf.new) l) }
     {
+        let shape = made.shape();
         let base = to.begins();
-        adjusting::copy_table(
-            work,
-            0,
-            shelf,
-            TableAt {
-                base,
-                states,
-                letters,
-            },
-        );
-        self.set(to, Entry::of(Size::new(states, letters)));
+        shelf[base..base + shape.size()].copy_from_slice(made.elements());
+        self.set(to, Entry::of(shape));
     }
 
     /// Makes the table of a place turned: it weighs each word as that one weighs the word read backwards.
@@ -63,8 +44,10 @@ impl Directory {
         ensures does { (out : List ℕ) (v : Verdict) → Does F.field F.value (state self.old.entries shelf.old (length work.old) out v) (turn place to) (outcome_by (λ _. Done) result) (state self.new.entries shelf.new (length work.new) out v) }
     {
         let (table, to) = self.one_table(shelf, work, place, to)?;
-        turning::turn(shelf, table, work, 0);
-        self.keep(shelf, work, to, table.states, table.letters);
+        let shape = table.shape();
+        let made = &mut work[0..shape.size()];
+        turning::turn(table, made);
+        self.keep(shelf, TableRef::new(made, shape), to);
         Ok(())
     }
 
@@ -79,8 +62,9 @@ impl Directory {
         ensures does { (out : List ℕ) (v : Verdict) → Does F.field F.value (state self.old.entries shelf.old (length work.old) out v) (reduce place to) (outcome_by (λ _. Done) result) (state self.new.entries shelf.new (length work.new) out v) }
     {
         let (table, to) = self.one_table(shelf, work, place, to)?;
-        let states = reduction::reduce(work, shelf, table);
-        self.keep(shelf, work, to, states, table.letters);
+        let letters = table.letters();
+        let states = reduction::reduce(work, table);
+        self.keep(shelf, TableRef::new(work, Shape::new(states, letters)), to);
         Ok(())
     }
 
@@ -99,8 +83,10 @@ impl Directory {
         let Some(factor) = F::from_code(code) else {
             return Err(Refusal::CodeOutside);
         };
-        adjusting::scale(shelf, table, factor, work, 0);
-        self.keep(shelf, work, to, table.states, table.letters);
+        let shape = table.shape();
+        let made = &mut work[0..shape.size()];
+        adjusting::scale(table, factor, made);
+        self.keep(shelf, TableRef::new(made, shape), to);
         Ok(())
     }
 
@@ -116,12 +102,13 @@ impl Directory {
         ensures does { (out : List ℕ) (v : Verdict) → Does F.field F.value (state self.old.entries shelf.old (length work.old) out v) (after place letter to) (outcome_by (λ _. Done) result) (state self.new.entries shelf.new (length work.new) out v) }
     {
         let (table, to) = self.one_table(shelf, work, place, to)?;
-        let a = letter as usize;
-        if a < 1 || a > table.letters {
+        let Some(letter) = table.letter(letter) else {
             return Err(Refusal::LetterOutside { position: 1 });
-        }
-        adjusting::after(shelf, table, a, work, 0);
-        self.keep(shelf, work, to, table.states, table.letters);
+        };
+        let shape = table.shape();
+        let made = &mut work[0..shape.size()];
+        adjusting::after(table, letter, made);
+        self.keep(shelf, TableRef::new(made, shape), to);
         Ok(())
     }
 
@@ -138,7 +125,7 @@ impl Directory {
         let to = Place::try_from(to)?;
         room(shelf.len(), work.len())?;
         let shape = read_table(text, work)?;
-        self.keep(shelf, work, to, shape.states, shape.letters);
+        self.keep(shelf, TableRef::new(work, shape), to);
         Ok(())
     }
 
@@ -154,12 +141,14 @@ impl Directory {
         ensures does { (out : List ℕ) (v : Verdict) → Does F.field F.value (state self.old.entries shelf.old (length work.old) out v) (sum first second to) (outcome_by (λ _. Done) result) (state self.new.entries shelf.new (length work.new) out v) }
     {
         let (both, to) = self.two_tables(shelf, work, first, second, to)?;
-        let states = both.left.states + both.right.states;
+        let states = both.left.states() + both.right.states();
         if states > 16 {
             return Err(Refusal::StatesOver);
         }
-        addition::sum(shelf, both.left, both.right, work, 0);
-        self.keep(shelf, work, to, states, both.left.letters);
+        let shape = Shape::new(states, both.left.letters());
+        let made = &mut work[0..shape.size()];
+        addition::sum(both.left, both.right, made);
+        self.keep(shelf, TableRef::new(made, shape), to);
         Ok(())
     }
 
@@ -175,12 +164,14 @@ impl Directory {
         ensures does { (out : List ℕ) (v : Verdict) → Does F.field F.value (state self.old.entries shelf.old (length work.old) out v) (multiply first second to) (outcome_by (λ _. Done) result) (state self.new.entries shelf.new (length work.new) out v) }
     {
         let (both, to) = self.two_tables(shelf, work, first, second, to)?;
-        let states = both.left.states * both.right.states;
+        let states = both.left.states() * both.right.states();
         if states > 16 {
             return Err(Refusal::StatesOver);
         }
-        multiplication::multiply(shelf, both.left, both.right, work, 0);
-        self.keep(shelf, work, to, states, both.left.letters);
+        let shape = Shape::new(states, both.left.letters());
+        let made = &mut work[0..shape.size()];
+        multiplication::multiply(both.left, both.right, made);
+        self.keep(shelf, TableRef::new(made, shape), to);
         Ok(())
     }
 }

@@ -11,9 +11,8 @@ use crate::place::Place;
 use book::refusal::Refusal;
 use book::verdict::{Kind, Verdict};
 use field::Field;
-use rows::weighing;
+use rows::weight;
 use search::compare::Comparison;
-use text::shape::Shape;
 use writer::{text_size, write_table};
 
 // The verdict record of a comparison. Both types are of other crates, so this is no `From`.
@@ -59,10 +58,8 @@ impl Directory {
         ensures does { (out : List ℕ) (v : Verdict) → Does F.field F.value (state self.now.entries shelf.now (length work.old) out v) (weigh place word.now) (outcome_by Code result) (state self.now.entries shelf.now (length work.new) out v) }
     {
         let (table, _) = self.one_table(shelf, work, place, place)?;
-        match weighing::weigh(shelf, table, word, work) {
-            Ok(weight) => Ok(weight.code()),
-            Err(position) => Err(Refusal::LetterOutside { position }),
-        }
+        let weight = weight::weigh(table, word, work)?;
+        Ok(weight.code())
     }
 
     /// Writes the text of the table of a place to the front of the output: how many bytes it has.
@@ -78,15 +75,11 @@ impl Directory {
         if shelf.len() < SHELF {
             return Err(Refusal::MemoryShort);
         }
-        let table = self.table(shelf.len(), place)?;
-        let shape = Shape {
-            states: table.states,
-            letters: table.letters,
-        };
-        if output.len() < text_size(shape) {
+        let table = self.table(shelf, place)?;
+        if output.len() < text_size(table.shape()) {
             return Err(Refusal::OutputShort);
         }
-        Ok(write_table(shelf, table.base, shape, output))
+        Ok(write_table(table, output))
     }
 
     /// Compares the tables of two places: writes the verdict on them.
@@ -101,7 +94,7 @@ impl Directory {
         ensures does { (out : List ℕ) → Does F.field F.value (state self.now.entries shelf.now (length work.old) out verdict.old) (compare first second) (outcome_by (λ _. Told verdict.new) result) (state self.now.entries shelf.now (length work.new) out verdict.new) }
     {
         let (both, _) = self.two_tables(shelf, work, first, second, second)?;
-        let found = search::compare::compare(work, shelf, both.left, both.right);
+        let found = search::compare::compare(work, both);
         *verdict = verdict_of(found);
         Ok(())
     }

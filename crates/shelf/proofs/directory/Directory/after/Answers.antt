@@ -1,6 +1,6 @@
 use Rattle.std.proofs.Common.{◌≤◌, length, sym, refl, ap, subst, inl, inr, arith}
 use Rattle.series.specs.Operations.{after_table}
-use Rattle.rows.specs.Tables.{table_of}
+use Rattle.rows.specs.Seen.{table_of}
 use Rattle.book.specs.Calls.{after}
 use Rattle.book.specs.Shelves.{letters_of, table}
 use Rattle.shelf.specs.Views.{shelf_of, state}
@@ -48,8 +48,8 @@ returns g c =
         (
           refl,
           made K v es c.keep.new.self.entries mem c.keep.new.shelf c.args.work.now c.after.new.work c.args.to t.states t.letters
-              (after_table K c.args.letter (table_of K v mem t)) (after_table K c.args.letter (table K v (shelf_of es mem) c.args.place))
-              c.after.ensures.after_written.same (ap (after_table K c.args.letter) (table_found K v es mem (length mem) c.args.place t c.in_ok-table.ensures.found.0))
+              (after_table K c.args.letter (table_of K v t)) (after_table K c.args.letter (table K v (shelf_of es mem) c.args.place))
+              c.after.ensures.after_written.same (ap (after_table K c.args.letter) (table_found K v es mem c.args.place t c.in_ok-table.ensures.found.0))
               c.in_ok-table.ensures.found.1 c.keep.ensures.kept c.after.auto.work out w,
         ),
       );

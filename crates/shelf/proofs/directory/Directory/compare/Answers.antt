@@ -1,5 +1,5 @@
 use Rattle.std.proofs.Common.{◌≡◌, length, sym, refl, ap, ◌∙◌, subst, subst₂}
-use Rattle.rows.specs.Tables.{table_of}
+use Rattle.rows.specs.Seen.{table_of}
 use Rattle.book.specs.Calls.{compare}
 use Rattle.book.specs.Verdicts.{Says}
 use Rattle.book.specs.declared.outcome.Answer.TheVariants.{Told}
@@ -27,15 +27,15 @@ returns g c =
     let r = c.in_ok-both.both.right in
     let f = c.in_ok-both.ensures.found.0 in
     let told : c.verdict_of.result ≡ verdict_on c.compare-found.result = c.verdict_of.ensures.tells in
-    let here : Says K (table_of K v mem l) (table_of K v mem r) c.verdict_of.result =
-    subst (Says K (table_of K v mem l) (table_of K v mem r)) (sym told) (says K (table_of K v mem l) (table_of K v mem r) c.compare-found.result (ap (λ z. length z.letters) (sym told) ∙ c.verdict_of.ensures.letters_31) c.compare-found.ensures.answer) in
+    let here : Says K (table_of K v l) (table_of K v r) c.verdict_of.result =
+    subst (Says K (table_of K v l) (table_of K v r)) (sym told) (says K (table_of K v l) (table_of K v r) c.compare-found.result (ap (λ z. length z.letters) (sym told) ∙ c.verdict_of.ensures.letters_31) c.compare-found.ensures.answer) in
     record {
       does = λ out. (
         compare_accepts K (state es mem (length c.args.work.now) out c.args.verdict.now) c.args.first c.args.second
             (c.in_ok-both.ensures.checked (compare c.args.first c.args.second) out c.args.verdict.now (of_compare c.args.first c.args.second)),
         (
           c.verdict_of.result,
-          subst₂ (λ S T. Says K S T c.verdict_of.result) (table_found K v es mem (length mem) c.args.first l f.left) (table_found K v es mem (length mem) c.args.second r f.right) here,
+          subst₂ (λ S T. Says K S T c.verdict_of.result) (table_found K v es mem c.args.first l f.left) (table_found K v es mem c.args.second r f.right) here,
           refl,
           record { shelf = refl; lent = ap (λ n. record { work = n; output = out; verdict = c.verdict_of.result }) c.compare-found.auto.work },
         ),

@@ -1,6 +1,6 @@
 use Rattle.std.proofs.Common.{◌*◌, ◌<◌, ◌≤◌, length, sym, refl, ap₂, subst₂, arith}
 use Rattle.series.specs.Operations.{product_table}
-use Rattle.rows.specs.Tables.{table_of}
+use Rattle.rows.specs.Seen.{table_of}
 use Rattle.text.proofs.Limits.{block_fits}
 use Rattle.book.specs.Calls.{multiply}
 use Rattle.book.specs.Shelves.{states_of, table}
@@ -58,9 +58,9 @@ returns g c =
         (
           refl,
           made K v es c.keep.new.self.entries mem c.keep.new.shelf c.args.work.now c.multiply.new.work c.args.to (l.states * r.states) l.letters
-              (product_table K (table_of K v mem l) (table_of K v mem r)) (product_table K (table K v (shelf_of es mem) c.args.first) (table K v (shelf_of es mem) c.args.second))
+              (product_table K (table_of K v l) (table_of K v r)) (product_table K (table K v (shelf_of es mem) c.args.first) (table K v (shelf_of es mem) c.args.second))
               c.multiply.ensures.product_written.same
-              (ap₂ (product_table K) (table_found K v es mem (length mem) c.args.first l f.left) (table_found K v es mem (length mem) c.args.second r f.right))
+              (ap₂ (product_table K) (table_found K v es mem c.args.first l f.left) (table_found K v es mem c.args.second r f.right))
               c.in_ok-both.ensures.found.1 c.keep.ensures.kept c.multiply.auto.work out w,
         ),
       );

@@ -42,6 +42,6 @@ returns-clause-checked g c = λ a out v reads.
     let others = of_one Place {p = c.args.to} (place_of c.in_ok-to.to c.args.to c.in_ok-to.ensures) in
     let there = c.in_ok-room.ensures.room_or_refused in
     let t = c.in_ok-table.table in
-    let found = found_at (map entry_of c.args.self.now.entries) c.in_ok-place.place c.args.place c.in_ok-place.ensures (length c.args.shelf.now) t c.in_ok-table.ensures.found_or_refused in
+    let found = found_at (map entry_of c.args.self.now.entries) c.in_ok-place.place c.args.place c.in_ok-place.ensures c.args.shelf.now t c.in_ok-table.ensures.found_or_refused in
     past_4 g.F.Field.field s a (c.args.place ∷ []) (c.args.to ∷ []) 8192 reads first others there.0 there.1
-    (of_one (λ q. entry s.shelf q ≢ empty) (not_empty (entry s.shelf c.args.place) t.states t.letters found.told))
+    (of_one (λ q. entry s.shelf q ≢ empty) (not_empty (entry s.shelf c.args.place) t.shape.states t.shape.letters found.told))

@@ -25,7 +25,7 @@ returns g c =
           refl,
           (
             R,
-            subst (λ T. Reduced K T.letters (weight K T) R) (table_found K v es mem (length mem) c.args.place t c.in_ok-table.ensures.found.0) c.reduce-states.ensures.reduced_form,
+            subst (λ T. Reduced K T.letters (weight K T) R) (table_found K v es mem c.args.place t c.in_ok-table.ensures.found.0) c.reduce-states.ensures.reduced_form,
             made K v es c.keep.new.self.entries mem c.keep.new.shelf c.args.work.now c.reduce-states.new.work c.args.to c.reduce-states.result t.letters R R (same_refl R) refl
                 c.in_ok-table.ensures.found.1 c.keep.ensures.kept c.reduce-states.auto.work out w,
           ),

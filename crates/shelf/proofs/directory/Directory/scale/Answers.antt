@@ -1,6 +1,6 @@
 use Rattle.std.proofs.Common.{length, refl, ap, ◌∙◌}
 use Rattle.series.specs.Operations.{scaled_table}
-use Rattle.rows.specs.Tables.{table_of}
+use Rattle.rows.specs.Seen.{table_of}
 use Rattle.book.specs.Calls.{scale}
 use Rattle.book.specs.Shelves.{table}
 use Rattle.shelf.specs.Views.{shelf_of, state}
@@ -47,8 +47,8 @@ returns g c =
         (
           refl,
           made K v es c.keep.new.self.entries mem c.keep.new.shelf c.args.work.now c.scale.new.work c.args.to t.states t.letters
-              (scaled_table K (v c.in-Some.factor) (table_of K v mem t)) (scaled_table K (K.decode c.args.code) (table K v (shelf_of es mem) c.args.place))
-              c.scale.ensures.scaled_written.same (ap (λ x. scaled_table K x (table_of K v mem t)) h.1 ∙ ap (scaled_table K (K.decode c.args.code)) (table_found K v es mem (length mem) c.args.place t c.in_ok-table.ensures.found.0))
+              (scaled_table K (v c.in-Some.factor) (table_of K v t)) (scaled_table K (K.decode c.args.code) (table K v (shelf_of es mem) c.args.place))
+              c.scale.ensures.scaled_written.same (ap (λ x. scaled_table K x (table_of K v t)) h.1 ∙ ap (scaled_table K (K.decode c.args.code)) (table_found K v es mem c.args.place t c.in_ok-table.ensures.found.0))
               c.in_ok-table.ensures.found.1 c.keep.ensures.kept c.scale.auto.work out w,
         ),
       );

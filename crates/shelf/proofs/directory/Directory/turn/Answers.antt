@@ -1,6 +1,6 @@
 use Rattle.std.proofs.Common.{length, refl, ap}
 use Rattle.series.specs.Operations.{turned_table}
-use Rattle.rows.specs.Tables.{table_of}
+use Rattle.rows.specs.Seen.{table_of}
 use Rattle.book.specs.Calls.{turn}
 use Rattle.book.specs.Shelves.{table}
 use Rattle.shelf.specs.Views.{shelf_of, state}
@@ -29,8 +29,8 @@ returns g c =
         (
           refl,
           made K v es c.keep.new.self.entries mem c.keep.new.shelf c.args.work.now c.turn.new.work c.args.to t.states t.letters
-              (turned_table K (table_of K v mem t)) (turned_table K (table K v (shelf_of es mem) c.args.place))
-              c.turn.ensures.turned_written.same (ap (turned_table K) (table_found K v es mem (length mem) c.args.place t c.in_ok-table.ensures.found.0))
+              (turned_table K (table_of K v t)) (turned_table K (table K v (shelf_of es mem) c.args.place))
+              c.turn.ensures.turned_written.same (ap (turned_table K) (table_found K v es mem c.args.place t c.in_ok-table.ensures.found.0))
               c.in_ok-table.ensures.found.1 c.keep.ensures.kept c.turn.auto.work out w,
         ),
       );

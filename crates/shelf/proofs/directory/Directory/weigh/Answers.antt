@@ -26,7 +26,7 @@ returns-in-Ok g c =
             (c.in_ok-table.ensures.checked (weigh c.args.place c.args.word.now) out w (reads_one (weigh c.args.place c.args.word.now) c.args.place 8192 refl refl refl))
             (subst (λ k. Over k c.args.word.now) (sym (ap letters_of found.told)) h.0),
         (
-          ap Code (c.code.ensures.is_code ∙ ap K.code (h.1 ∙ ap (λ T. weight K T c.args.word.now) (table_found K v es mem (length mem) c.args.place t found))),
+          ap Code (c.code.ensures.is_code ∙ ap K.code (h.1 ∙ ap (λ T. weight K T c.args.word.now) (table_found K v es mem c.args.place t found))),
           record { shelf = refl; lent = ap (λ n. record { work = n; output = out; verdict = w }) c.weigh.auto.work },
         ),
       );

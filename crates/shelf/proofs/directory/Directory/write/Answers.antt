@@ -1,6 +1,6 @@
 use Rattle.std.proofs.Common.{◌≡◌, ◌<◌, ◌≤◌, [], ◌∷◌, map, length, sym, refl, ap, ◌∙◌, subst, inl, arith}
 use Rattle.text.specs.Texts.{text_size, text_of}
-use Rattle.rows.specs.Tables.{table_of}
+use Rattle.rows.specs.Seen.{table_of}
 use Rattle.book.specs.Shelves.{empty, Place, states_of, letters_of, entry, table}
 use Rattle.book.specs.Calls.{write}
 use Rattle.book.specs.declared.outcome.Answer.TheVariants.{Count}
@@ -45,7 +45,7 @@ pub returns-then-output-text_size : goal.returns-then-output-text_size
 returns-then-output-text_size g c =
     let a = write c.args.place in
     let t = c.in_ok-table.table in
-    let found = found_at (map entry_of c.args.self.now.entries) c.in_ok-place.place c.args.place c.in_ok-place.ensures (length c.args.shelf.now) t c.in_ok-table.ensures.found_or_refused in
+    let found = found_at (map entry_of c.args.self.now.entries) c.in_ok-place.place c.args.place c.in_ok-place.ensures c.args.shelf.now t c.in_ok-table.ensures.found_or_refused in
     let places = of_one Place {p = c.args.place} (place_of c.in_ok-place.place c.args.place c.in_ok-place.ensures) in
     let short : length c.args.output.now < text_size t.states t.letters = subst (λ m. length c.args.output.now < m) c.text_size.ensures.counted c.if-output-text_size.true in
     record {
@@ -53,7 +53,7 @@ returns-then-output-text_size g c =
           let s = state c.args.self.now.entries c.args.shelf.now n c.args.output.now w in (
             write_refuses g.F.Field.field s c.args.place
                 (past_4 g.F.Field.field s a (c.args.place ∷ []) (c.args.place ∷ []) 0 (reads_one a c.args.place 0 refl refl refl) places places c.if-shelf-lt-SHELF.false (omega arith)
-                (of_one (λ q. entry s.shelf q ≡ empty → ⊥) (not_empty (entry s.shelf c.args.place) t.states t.letters found.told)))
+                (of_one (λ q. entry s.shelf q ≡ empty → ⊥) (not_empty (entry s.shelf c.args.place) t.shape.states t.shape.letters found.told)))
                 (subst (λ e. length c.args.output.now < text_size (states_of e) (letters_of e)) (sym found.told) short),
             refl,
           );
@@ -67,10 +67,10 @@ returns g c =
     let mem = c.args.shelf.now in
     let a = write c.args.place in
     let t = c.in_ok-table.table in
-    let found = found_at (map entry_of c.args.self.now.entries) c.in_ok-place.place c.args.place c.in_ok-place.ensures (length c.args.shelf.now) t c.in_ok-table.ensures.found_or_refused in
+    let found = found_at (map entry_of c.args.self.now.entries) c.in_ok-place.place c.args.place c.in_ok-place.ensures c.args.shelf.now t c.in_ok-table.ensures.found_or_refused in
     let places = of_one Place {p = c.args.place} (place_of c.in_ok-place.place c.args.place c.in_ok-place.ensures) in
     let room : text_size t.states t.letters ≤ length c.args.output.now = subst (λ m. m ≤ length c.args.output.now) c.text_size.ensures.counted c.if-output-text_size.false in
-    let same : table_of K v mem t ≡ table K v (shelf_of es mem) c.args.place = table_found K v es mem (length mem) c.args.place t found in
+    let same : table_of K v t ≡ table K v (shelf_of es mem) c.args.place = table_found K v es mem c.args.place t found in
     let front = front_written c.write_table.result (text_of K (table K v (shelf_of es mem) c.args.place)) c.args.output.now c.write_table.new.output (c.write_table.ensures.written ∙ ap (text_of K) same) c.write_table.ensures.later_bytes_kept
     (omega (arith, c.write_table.ensures.counted, c.write_table.auto.output, room)) in
     record {
@@ -78,7 +78,7 @@ returns g c =
           let s = state es mem n c.args.output.now w in (
             write_accepts K s c.args.place
                 (past_4 K s a (c.args.place ∷ []) (c.args.place ∷ []) 0 (reads_one a c.args.place 0 refl refl refl) places places c.if-shelf-lt-SHELF.false (omega arith)
-                (of_one (λ q. entry s.shelf q ≡ empty → ⊥) (not_empty (entry s.shelf c.args.place) t.states t.letters found.told)))
+                (of_one (λ q. entry s.shelf q ≡ empty → ⊥) (not_empty (entry s.shelf c.args.place) t.shape.states t.shape.letters found.told)))
                 (subst (λ e. text_size (states_of e) (letters_of e) ≤ length c.args.output.now) (sym found.told) room),
             (ap Count front.0, record { shelf = refl; lent = ap (λ o. record { work = n; output = o; verdict = w }) front.1 }),
           );
