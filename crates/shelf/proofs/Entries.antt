@@ -1,18 +1,14 @@
 -- Entries by place. Assumes nothing.
-use Rattle.std.proofs.Common.{◌≡◌, ℕ, zero, suc, ◌+◌, ◌-◌, ◌≤◌, List, get_or, set, ap, subst, arith}
+use Rattle.std.proofs.Common.{◌≡◌, ℕ, zero, suc, ◌+◌, ◌-◌, ◌≤◌, List, get_or, ap, subst, arith}
 use Rattle.rows.specs.Layout.{table_size}
 use Rattle.rows.specs.declared.table.Shape.{Shape}
 use Rattle.rows.specs.declared.table.TableRef.{TableRef}
 use Rattle.rows.proofs.Shapes.{shape_fits}
-use Rattle.book.specs.Shelves.{Entry, empty, Place, at_place, with_place, begins}
+use Rattle.book.specs.Shelves.{Entry, empty, Place, at_place, begins}
 use Rattle.book.specs.declared.refusal.Refusal.{Refusal}
 use Rattle.book.specs.declared.refusal.Refusal.TheVariants.{PlaceEmpty}
 use Rattle.shelf.specs.Checking.{Found}
 use Rattle.shelf.specs.declared.place.Place.{Place as PlaceCode}
-
--- a number that is told as a place is one
-pub place_of : (x : PlaceCode) (p : ℕ) → x.number ≡ p → Place p
-place_of x p e = subst Place e x.within
 
 -- what is found at a place, or that nothing is, told of its number
 module _ (es : List Entry) (x : PlaceCode) (p : ℕ) (e : x.number ≡ p) where
@@ -25,10 +21,6 @@ module _ (es : List Entry) (x : PlaceCode) (p : ℕ) (e : x.number ≡ p) where
 pub at_get : {X : Type 0} (d : X) (xs : List X) (p : ℕ) → 1 ≤ p → at_place d xs p ≡ get_or xs (p - 1) d
 at_get d xs zero l = absurd (omega arith)
 at_get d xs (suc i) l = ap (λ j. get_or xs j d) (omega arith)
-
-pub with_set : {X : Type 0} (xs : List X) (p : ℕ) (x : X) → 1 ≤ p → set xs (p - 1) x ≡ with_place xs p x
-with_set xs zero x l = absurd (omega arith)
-with_set xs (suc i) x l = ap (λ j. set xs j x) (omega arith)
 
 -- a table of a place lies in shelf memory
 pub place_fits : (z : Shape) (p len base : ℕ) → base ≡ begins p → Place p → 12544 ≤ len → base + table_size z.states z.letters ≤ len

@@ -10,6 +10,7 @@ use Rattle.book.specs.declared.refusal.Refusal.{Refusal}
 use Rattle.book.specs.declared.refusal.Refusal.TheVariants.{PlaceOutside, MemoryShort, WorkShort, PlaceEmpty}
 use Rattle.book.proofs.Checks.{Passed, passed_0, passed_1, passed_2, passed_3, passed_4, refused_at}
 use Rattle.shelf.specs.Checking.{Reads, Checked}
+use Rattle.shelf.specs.declared.place.Place.{Place as PlaceCode}
 
 -- what holds of each of one or two places
 pub of_one : (P : ℕ → Type 0) {p : ℕ} → P p → (q : ℕ) → Among (p ∷ []) q → P q
@@ -19,6 +20,16 @@ of_one P h q (inr b) = absurd b
 pub of_two : (P : ℕ → Type 0) {p r : ℕ} → P p → P r → (q : ℕ) → Among (p ∷ r ∷ []) q → P q
 of_two P h l q (inl e) = subst P (sym e) h
 of_two P h l q (inr m) = of_one P l q m
+
+-- a number that is told as a place is one; so are one or two such numbers
+place_of : (x : PlaceCode) (p : ℕ) → x.number ≡ p → Place p
+place_of x p e = subst Place e x.within
+
+pub within_one : (x : PlaceCode) (p : ℕ) → x.number ≡ p → (q : ℕ) → Among (p ∷ []) q → Place q
+within_one x p e = of_one Place {p = p} (place_of x p e)
+
+pub within_two : (x y : PlaceCode) (p r : ℕ) → x.number ≡ p → y.number ≡ r → (q : ℕ) → Among (p ∷ r ∷ []) q → Place q
+within_two x y p r e d = of_two Place {p = p} {r = r} (place_of x p e) (place_of y r d)
 
 -- a call that makes a table of one that it reads
 pub makes_of_one : (c : Call) (p to : ℕ) → sources c ≡ p ∷ [] → results c ≡ to ∷ [] → asks c ≡ (12544, 8192) → Reads c (p ∷ []) (to ∷ []) 8192

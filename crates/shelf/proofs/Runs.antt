@@ -1,6 +1,6 @@
 -- A run that grows by a request, and that follows the book. Assumes nothing.
-use Rattle.std.proofs.Common.{◌≡◌, ℕ, zero, suc, ◌+◌, ◌<◌, ◌≤◌, List, [], ◌∷◌, ◌++◌, map, length, get_or, take, drop, set, sym, refl, ap, ◌∙◌, subst, subst₂, add-one}
-use Rattle.std.proofs.lemmas.List.{take_more, take_more_set}
+use Rattle.std.proofs.Common.{◌≡◌, ℕ, zero, suc, ◌+◌, ◌<◌, ◌≤◌, List, [], ◌∷◌, ◌++◌, map, length, get_or, take, drop, set, sym, refl, ap, ◌∙◌, subst, subst₂, arith, add-one}
+use Rattle.std.proofs.lemmas.List.{drop-set-lt, take_more, take_more_set}
 use Rattle.field.specs.FiniteField.{FiniteField}
 use Rattle.book.specs.Shelves.{State}
 use Rattle.book.specs.Running.{Run, next, call_in}
@@ -15,14 +15,9 @@ drop_one [] (suc i) = refl
 drop_one (x ∷ xs) zero = refl
 drop_one (x ∷ xs) (suc i) = drop_one xs i
 
-drop_set : {X : Type 0} (xs : List X) (i : ℕ) (x : X) → drop (suc i) (set xs i x) ≡ drop (suc i) xs
-drop_set [] i x = refl
-drop_set (y ∷ xs) zero x = refl
-drop_set (y ∷ xs) (suc i) x = drop_set xs i x
-
 -- what lies behind the element that is set
 pub drop_more_set : {X : Type 0} (xs ys : List X) (i : ℕ) (x : X) → drop i xs ≡ drop i ys → drop (i + 1) (set xs i x) ≡ drop (i + 1) ys
-drop_more_set xs ys i x e = rw add-one (drop_set xs i x ∙ drop_one xs i ∙ ap (drop 1) e ∙ sym (drop_one ys i))
+drop_more_set xs ys i x e = rw add-one (drop-set-lt (suc i) xs i x (omega arith) ∙ drop_one xs i ∙ ap (drop 1) e ∙ sym (drop_one ys i))
 
 pub run_more : {V : Type 0} (K : FiniteField V) {F : Type 0} (v : F → V) (first s t : State F) (rs : List Request) (os : List Outcome) (i : ℕ) (d : Request) (o : Outcome) → i < length rs → i < length os
     → Run K v first (take i rs) (take i os) s → TakenUp K v s (get_or rs i d) o t → Run K v first (take (i + 1) rs) (take (i + 1) (set os i o)) t

@@ -14,12 +14,8 @@ impl Directory {
         ensures clears { Clears (map entry_of self.old.entries) place result (map entry_of self.new.entries) }
     {
         let place = Place::try_from(place)?;
-        match self.shape_at(place) {
-            None => Err(Refusal::PlaceEmpty),
-            Some(_) => {
-                self.set(place, Entry::EMPTY);
-                Ok(())
-            }
-        }
+        self.shape_at(place).ok_or(Refusal::PlaceEmpty)?;
+        self.set(place, Entry::EMPTY);
+        Ok(())
     }
 }

@@ -129,6 +129,7 @@ impl Directory {
         Ok(())
     }
 
+    // Sum and multiply stay apart: one function for both would take two closures, and promise a call of neither.
     /// Makes the sum of the tables of two places: it weighs each word as both together.
     pub fn sum<F: Field>(
         &mut self,

@@ -4,16 +4,10 @@ use Rattle.rows.specs.Seen.{table_of}
 use Rattle.book.specs.Calls.{after}
 use Rattle.book.specs.Shelves.{letters_of, table}
 use Rattle.shelf.specs.Views.{shelf_of, state}
-use Rattle.shelf.proofs.Entries.{front_room}
 use Rattle.shelf.proofs.Gating.{makes_of_one}
 use Rattle.shelf.proofs.Made.{table_found, made}
 use Rattle.shelf.proofs.Late.{after_accepts, after_refuses}
 use Rattle.shelf.proofs.directory.Directory.after.Goals as goal
-
-pub after-requires : goal.after-requires
-after-requires g c =
-    let f = c.in_ok-table.ensures.found in
-    record { table_lies = f.0.lies; letter_of_table = (c.if-a-lt1.false, c.if-a-table.false); room = front_room (length c.args.shelf.now) (length c.args.work.now) c.in_ok-table.table f.0.lies f.2.working }
 
 pub returns-then-a-lt1 : goal.returns-then-a-lt1
 returns-then-a-lt1 g c =

@@ -1,11 +1,9 @@
 use Rattle.std.proofs.Common.{[], ◌∷◌, length, refl, ap, inl, inr}
 use Rattle.rows.specs.Layout.{table_at}
-use Rattle.book.specs.Shelves.{Place}
 use Rattle.book.specs.Calls.{load}
 use Rattle.book.specs.declared.outcome.Answer.TheVariants.{Done}
 use Rattle.shelf.specs.Views.{state}
-use Rattle.shelf.proofs.Entries.{place_of}
-use Rattle.shelf.proofs.Gating.{of_one, makes_of_none, absent, short, past_4}
+use Rattle.shelf.proofs.Gating.{within_one, makes_of_none, absent, short, past_4}
 use Rattle.shelf.proofs.Made.{same_refl, made, refused}
 use Rattle.shelf.proofs.Late.{load_accepts, load_refuses}
 use Rattle.shelf.proofs.directory.Directory.load.Goals as goal
@@ -27,7 +25,7 @@ returns-in_err-room g c =
       does = λ out w.
           let s = state c.args.self.now.entries c.args.shelf.now (length c.args.work.now) out w in
           refused g.F.Field.field g.F.Field.value s s a (λ _. Done) c.from_residual-in_err-room.result c.from_residual-in_err-room.ensures.1
-          (short g.F.Field.field s a [] (c.args.to ∷ []) 8192 (makes_of_none a c.args.to refl refl refl) (λ q m. absurd m) (of_one Place {p = c.args.to} (place_of c.in_ok-to.to c.args.to c.in_ok-to.ensures)) _ c.in_err-room.ensures.room_or_refused) refl;
+          (short g.F.Field.field s a [] (c.args.to ∷ []) 8192 (makes_of_none a c.args.to refl refl refl) (λ q m. absurd m) (within_one c.in_ok-to.to c.args.to c.in_ok-to.ensures) _ c.in_err-room.ensures.room_or_refused) refl;
     }
 
 pub returns : goal.returns
@@ -45,7 +43,7 @@ returns g c =
       does = λ out w.
           let s = state es mem (length c.args.work.now) out w in (
             load_accepts K s c.args.text.now c.args.to
-                (past_4 K s a [] (c.args.to ∷ []) 8192 (makes_of_none a c.args.to refl refl refl) (λ q m. absurd m) (of_one Place {p = c.args.to} (place_of c.in_ok-to.to c.args.to c.in_ok-to.ensures)) there.0 there.1 (λ q m. absurd m))
+                (past_4 K s a [] (c.args.to ∷ []) 8192 (makes_of_none a c.args.to refl refl refl) (λ q m. absurd m) (within_one c.in_ok-to.to c.args.to c.in_ok-to.ensures) there.0 there.1 (λ q m. absurd m))
                 R h.sized h.is,
             (
               refl,
@@ -72,7 +70,7 @@ returns-in_err-shape g c =
           let s = state es mem (length c.args.work.now) out w in
           refused K g.F.Field.value s _ a (λ _. Done) c.from_residual-in_err-shape.result c.from_residual-in_err-shape.ensures.1
           (load_refuses K s c.args.text.now c.args.to
-              (past_4 K s a [] (c.args.to ∷ []) 8192 (makes_of_none a c.args.to refl refl refl) (λ q m. absurd m) (of_one Place {p = c.args.to} (place_of c.in_ok-to.to c.args.to c.in_ok-to.ensures)) there.0 there.1 (λ q m. absurd m))
-              _ c.in_err-shape.ensures.accepted_or_refused)
+          (past_4 K s a [] (c.args.to ∷ []) 8192 (makes_of_none a c.args.to refl refl refl) (λ q m. absurd m) (within_one c.in_ok-to.to c.args.to c.in_ok-to.ensures) there.0 there.1 (λ q m. absurd m))
+          _ c.in_err-shape.ensures.accepted_or_refused)
           (ap (λ n. state es mem n out w) c.read_table.auto.work);
     }

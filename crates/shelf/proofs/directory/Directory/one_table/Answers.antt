@@ -1,8 +1,8 @@
 use Rattle.std.proofs.Common.{◌≢◌, [], ◌∷◌, map, length, refl, inl, inr}
-use Rattle.book.specs.Shelves.{empty, Place, entry}
+use Rattle.book.specs.Shelves.{empty, entry}
 use Rattle.shelf.specs.Views.{entry_of, state}
-use Rattle.shelf.proofs.Entries.{place_of, found_at, empty_at}
-use Rattle.shelf.proofs.Gating.{of_one, not_empty, broken, absent, short, unfilled, past_4}
+use Rattle.shelf.proofs.Entries.{found_at, empty_at}
+use Rattle.shelf.proofs.Gating.{of_one, within_one, not_empty, broken, absent, short, unfilled, past_4}
 use Rattle.shelf.proofs.directory.Directory.one_table.Goals as goal
 
 pub returns-in_err-place-clause-checked : goal.returns-in_err-place-clause-checked
@@ -20,26 +20,26 @@ returns-in_err-to-clause-checked g c = λ a out v reads.
 pub returns-in_err-room-clause-checked : goal.returns-in_err-room-clause-checked
 returns-in_err-room-clause-checked g c = λ a out v reads.
     let s = state c.args.self.now.entries c.args.shelf.now (length c.args.work.now) out v in
-    let first = of_one Place {p = c.args.place} (place_of c.in_ok-place.place c.args.place c.in_ok-place.ensures) in
-    let others = of_one Place {p = c.args.to} (place_of c.in_ok-to.to c.args.to c.in_ok-to.ensures) in
+    let first = within_one c.in_ok-place.place c.args.place c.in_ok-place.ensures in
+    let others = within_one c.in_ok-to.to c.args.to c.in_ok-to.ensures in
     broken g.F.Field.field s a 4 c.from_residual-in_err-room.result c.from_residual-in_err-room.ensures.1
     (short g.F.Field.field s a (c.args.place ∷ []) (c.args.to ∷ []) 8192 reads first others _ c.in_err-room.ensures.room_or_refused)
 
 pub returns-in_err-table-clause-checked : goal.returns-in_err-table-clause-checked
 returns-in_err-table-clause-checked g c = λ a out v reads.
     let s = state c.args.self.now.entries c.args.shelf.now (length c.args.work.now) out v in
-    let first = of_one Place {p = c.args.place} (place_of c.in_ok-place.place c.args.place c.in_ok-place.ensures) in
-    let others = of_one Place {p = c.args.to} (place_of c.in_ok-to.to c.args.to c.in_ok-to.ensures) in
+    let first = within_one c.in_ok-place.place c.args.place c.in_ok-place.ensures in
+    let others = within_one c.in_ok-to.to c.args.to c.in_ok-to.ensures in
     let there = c.in_ok-room.ensures.room_or_refused in
     broken g.F.Field.field s a 4 c.from_residual-in_err-table.result c.from_residual-in_err-table.ensures.1
     (unfilled g.F.Field.field s a (c.args.place ∷ []) (c.args.to ∷ []) 8192 reads first others there.0 there.1 c.args.place (inl refl) _
-        (empty_at (map entry_of c.args.self.now.entries) c.in_ok-place.place c.args.place c.in_ok-place.ensures _ c.in_err-table.ensures.found_or_refused))
+    (empty_at (map entry_of c.args.self.now.entries) c.in_ok-place.place c.args.place c.in_ok-place.ensures _ c.in_err-table.ensures.found_or_refused))
 
 pub returns-clause-checked : goal.returns-clause-checked
 returns-clause-checked g c = λ a out v reads.
     let s = state c.args.self.now.entries c.args.shelf.now (length c.args.work.now) out v in
-    let first = of_one Place {p = c.args.place} (place_of c.in_ok-place.place c.args.place c.in_ok-place.ensures) in
-    let others = of_one Place {p = c.args.to} (place_of c.in_ok-to.to c.args.to c.in_ok-to.ensures) in
+    let first = within_one c.in_ok-place.place c.args.place c.in_ok-place.ensures in
+    let others = within_one c.in_ok-to.to c.args.to c.in_ok-to.ensures in
     let there = c.in_ok-room.ensures.room_or_refused in
     let t = c.in_ok-table.table in
     let found = found_at (map entry_of c.args.self.now.entries) c.in_ok-place.place c.args.place c.in_ok-place.ensures c.args.shelf.now t c.in_ok-table.ensures.found_or_refused in

@@ -4,16 +4,10 @@ use Rattle.rows.specs.Seen.{table_of}
 use Rattle.book.specs.Calls.{scale}
 use Rattle.book.specs.Shelves.{table}
 use Rattle.shelf.specs.Views.{shelf_of, state}
-use Rattle.shelf.proofs.Entries.{front_room}
 use Rattle.shelf.proofs.Gating.{makes_of_one}
 use Rattle.shelf.proofs.Made.{table_found, made}
 use Rattle.shelf.proofs.Late.{scale_accepts, scale_refuses}
 use Rattle.shelf.proofs.directory.Directory.scale.Goals as goal
-
-pub scale-requires : goal.scale-requires
-scale-requires g c =
-    let f = c.in_ok-table.ensures.found in
-    record { table_lies = f.0.lies; room = front_room (length c.args.shelf.now) (length c.args.work.now) c.in_ok-table.table f.0.lies f.2.working }
 
 pub returns-in_default : goal.returns-in_default
 returns-in_default g c =

@@ -11,16 +11,11 @@ use Rattle.shelf.proofs.Made.{table_found, made, refused}
 use Rattle.shelf.proofs.Late.{sum_accepts, sum_refuses}
 use Rattle.shelf.proofs.directory.Directory.sum.Goals as goal
 
-pub sum-requires : goal.sum-requires
-sum-requires g c =
-    let f = c.in_ok-both.ensures.found.0 in
-    record {
-      left_lies = f.left.lies;
-      right_lies = f.right.lies;
-      same_letters = f.same_letters;
-      few_states = c.if-states-gt16.false;
-      room = omega (arith, block_fits (c.in_ok-both.both.left.states + c.in_ok-both.both.right.states) c.in_ok-both.both.left.letters (record { states = c.if-states-gt16.false; some_letter = f.left.lies.some_letter; letters = f.left.lies.few_letters }), c.in_ok-both.ensures.found.2.working);
-    }
+pub sum-requires-clause-room : goal.sum-requires-clause-room
+sum-requires-clause-room g c =
+    let f = c.in_ok-both.ensures.found in
+    let l = c.in_ok-both.both.left in
+    omega (arith, block_fits (l.states + c.in_ok-both.both.right.states) l.letters (record { states = c.if-states-gt16.false; some_letter = f.0.left.lies.some_letter; letters = f.0.left.lies.few_letters }), f.2.working)
 
 pub returns-in_err-both : goal.returns-in_err-both
 returns-in_err-both g c = record {

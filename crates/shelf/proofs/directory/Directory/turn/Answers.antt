@@ -4,16 +4,10 @@ use Rattle.rows.specs.Seen.{table_of}
 use Rattle.book.specs.Calls.{turn}
 use Rattle.book.specs.Shelves.{table}
 use Rattle.shelf.specs.Views.{shelf_of, state}
-use Rattle.shelf.proofs.Entries.{front_room}
 use Rattle.shelf.proofs.Gating.{makes_of_one}
 use Rattle.shelf.proofs.Made.{table_found, made}
 use Rattle.shelf.proofs.Late.{turn_accepts}
 use Rattle.shelf.proofs.directory.Directory.turn.Goals as goal
-
-pub turn-requires : goal.turn-requires
-turn-requires g c =
-    let f = c.in_ok-table.ensures.found in
-    record { table_lies = f.0.lies; room = front_room (length c.args.shelf.now) (length c.args.work.now) c.in_ok-table.table f.0.lies f.2.working }
 
 pub returns : goal.returns
 returns g c =

@@ -1,12 +1,12 @@
 use Rattle.std.proofs.Common.{◌≡◌, ◌<◌, ◌≤◌, [], ◌∷◌, map, length, sym, refl, ap, ◌∙◌, subst, inl, arith}
 use Rattle.text.specs.Texts.{text_size, text_of}
 use Rattle.rows.specs.Seen.{table_of}
-use Rattle.book.specs.Shelves.{empty, Place, states_of, letters_of, entry, table}
+use Rattle.book.specs.Shelves.{empty, states_of, letters_of, entry, table}
 use Rattle.book.specs.Calls.{write}
 use Rattle.book.specs.declared.outcome.Answer.TheVariants.{Count}
 use Rattle.shelf.specs.Views.{entry_of, shelf_of, state}
-use Rattle.shelf.proofs.Entries.{place_of, found_at, empty_at}
-use Rattle.shelf.proofs.Gating.{of_one, reads_one, not_empty, absent, no_memory, unfilled, past_4}
+use Rattle.shelf.proofs.Entries.{found_at, empty_at}
+use Rattle.shelf.proofs.Gating.{of_one, within_one, reads_one, not_empty, absent, no_memory, unfilled, past_4}
 use Rattle.shelf.proofs.Made.{table_found, refused}
 use Rattle.shelf.proofs.Late.{write_accepts, write_refuses}
 use Rattle.shelf.proofs.Texts.{front_written}
@@ -25,7 +25,7 @@ returns-in_err-place g c =
 pub returns-then-shelf-lt-SHELF : goal.returns-then-shelf-lt-SHELF
 returns-then-shelf-lt-SHELF g c =
     let a = write c.args.place in
-    let places = of_one Place {p = c.args.place} (place_of c.in_ok-place.place c.args.place c.in_ok-place.ensures) in
+    let places = within_one c.in_ok-place.place c.args.place c.in_ok-place.ensures in
     record {
       does = λ n w. (no_memory g.F.Field.field (state c.args.self.now.entries c.args.shelf.now n c.args.output.now w) a (c.args.place ∷ []) (c.args.place ∷ []) 0 (reads_one a c.args.place 0 refl refl refl) places places c.if-shelf-lt-SHELF.true, refl);
     }
@@ -33,7 +33,7 @@ returns-then-shelf-lt-SHELF g c =
 pub returns-in_err-table : goal.returns-in_err-table
 returns-in_err-table g c =
     let a = write c.args.place in
-    let places = of_one Place {p = c.args.place} (place_of c.in_ok-place.place c.args.place c.in_ok-place.ensures) in
+    let places = within_one c.in_ok-place.place c.args.place c.in_ok-place.ensures in
     record {
       does = λ n w.
           let s = state c.args.self.now.entries c.args.shelf.now n c.args.output.now w in
@@ -46,7 +46,7 @@ returns-then-output-text_size g c =
     let a = write c.args.place in
     let t = c.in_ok-table.table in
     let found = found_at (map entry_of c.args.self.now.entries) c.in_ok-place.place c.args.place c.in_ok-place.ensures c.args.shelf.now t c.in_ok-table.ensures.found_or_refused in
-    let places = of_one Place {p = c.args.place} (place_of c.in_ok-place.place c.args.place c.in_ok-place.ensures) in
+    let places = within_one c.in_ok-place.place c.args.place c.in_ok-place.ensures in
     let short : length c.args.output.now < text_size t.states t.letters = subst (λ m. length c.args.output.now < m) c.text_size.ensures.counted c.if-output-text_size.true in
     record {
       does = λ n w.
@@ -68,7 +68,7 @@ returns g c =
     let a = write c.args.place in
     let t = c.in_ok-table.table in
     let found = found_at (map entry_of c.args.self.now.entries) c.in_ok-place.place c.args.place c.in_ok-place.ensures c.args.shelf.now t c.in_ok-table.ensures.found_or_refused in
-    let places = of_one Place {p = c.args.place} (place_of c.in_ok-place.place c.args.place c.in_ok-place.ensures) in
+    let places = within_one c.in_ok-place.place c.args.place c.in_ok-place.ensures in
     let room : text_size t.states t.letters ≤ length c.args.output.now = subst (λ m. m ≤ length c.args.output.now) c.text_size.ensures.counted c.if-output-text_size.false in
     let same : table_of K v t ≡ table K v (shelf_of es mem) c.args.place = table_found K v es mem c.args.place t found in
     let front = front_written c.write_table.result (text_of K (table K v (shelf_of es mem) c.args.place)) c.args.output.now c.write_table.new.output (c.write_table.ensures.written ∙ ap (text_of K) same) c.write_table.ensures.later_bytes_kept
