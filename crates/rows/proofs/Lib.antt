@@ -4,3 +4,4 @@ pub mod Layouts
 pub mod Words
 pub mod Tables
 pub mod Slices
+pub mod Held
