@@ -1,108 +1,75 @@
-//! The sum of two tables, written into work memory from tables that lie on the shelf, which is only read.
-ghost use Rattle.std.specs.Prelude.{◌≡◌, ℕ, ◌+◌, ◌*◌, ◌/◌, ◌%◌, ◌<◌, ◌≤◌, length};
-ghost use Rattle.series.specs.Tables.{weight, beside};
+//! The sum of two tables.
+ghost use Rattle.std.specs.Prelude.{◌≡◌, ◌+◌, ◌<◌, ◌≤◌, ◌++◌, length};
+ghost use Rattle.series.specs.Tables.{weight};
 ghost use Rattle.series.specs.Operations.{sum_table};
-ghost use Rattle.rows.specs.Memory.{row_at, Written, RowsWritten};
 ghost use Rattle.rows.specs.Layout.{table_size, table_at};
-ghost use Rattle.rows.specs.Tables.{Lies, Weighs, table_of, TableWritten};
+ghost use Rattle.rows.specs.Seen.{table_of, RowOf, HoldsTable};
+ghost use Rattle.rows.specs.Tables.{Weighs};
 
+use crate::parts::write_table;
 use field::Field;
-use rows::blocks::{clear_block, copy_block};
-use rows::layout::TableAt;
+use rows::table::{Shape, TableRef};
 
-// Two rows of the shelf side by side.
-fn write_beside<F: Field>(
-    shelf: &[F],
-    left: usize,
-    n: usize,
-    right: usize,
-    m: usize,
-    work: &mut [F],
-    to: usize,
-)
-    requires left_within { left + n ≤ length shelf.now }
-    requires right_within { right + m ≤ length shelf.now }
-    requires to_within { to + (n + m) ≤ length work.old }
-    ensures rows_beside { Written F.field F.value to (n + m) (beside n (row_at F.field F.value shelf.now left) (row_at F.field F.value shelf.now right)) work.old work.new }
+// Two rows side by side.
+fn write_beside<F: Field>(left: &[F], right: &[F], to: &mut [F])
+    requires as_long { length to.old ≡ length left.now + length right.now }
+    ensures rows_beside { to.new ≡ left.now ++ right.now }
 {
-    copy_block(shelf, left, work, to, n);
-    copy_block(shelf, right, work, to + n, m);
+    let (front, back) = to.split_at_mut(left.len());
+    front.copy_from_slice(left);
+    back.copy_from_slice(right);
+}
+
+// Not `fill`: it asks that cloning the element cannot fail and gives it again, which is not known of every field.
+fn write_zeros<F: Field>(to: &mut [F])
+    ensures zeros { RowOf F.field F.value (length to.old) (λ _. F.field.zero) to.new }
+{
+    let zero = F::zero();
+    for x in to.iter_mut() {
+        *x = zero;
+    }
 }
 
 // A row of a letter's matrix of the sum: a row of one of the two tables, with zeros beside it.
 fn write_sum_row<F: Field>(
-    shelf: &[F],
-    left: TableAt,
-    right: TableAt,
+    left: TableRef<'_, F>,
+    right: TableRef<'_, F>,
     letter: usize,
     row: usize,
-    work: &mut [F],
-    to: usize,
+    to: &mut [F],
 )
-    requires left_lies { Lies (length shelf.now) left }
-    requires right_lies { Lies (length shelf.now) right }
-    requires letter_of_both { (1 ≤ letter) × ((letter ≤ left.letters) × (letter ≤ right.letters)) }
-    requires row_of_sum { row < left.states + right.states }
-    requires to_within { to + (left.states + right.states) ≤ length work.old }
-    ensures row_of_sum_table { Written F.field F.value to (left.states + right.states) ((sum_table F.field (table_of F.field F.value shelf.now left) (table_of F.field F.value shelf.now right)).step letter row) work.old work.new }
+    requires letter_of_both { (1 ≤ letter) × ((letter ≤ left.shape.letters) × (letter ≤ right.shape.letters)) }
+    requires row_of_sum { row < left.shape.states + right.shape.states }
+    requires as_long { length to.old ≡ left.shape.states + right.shape.states }
+    ensures row_of_sum_table { RowOf F.field F.value (left.entry.shape.states + right.entry.shape.states) ((sum_table F.field (table_of F.field F.value left.entry) (table_of F.field F.value right.entry)).step letter row) to.new }
 {
-    let n = left.states;
-    let m = right.states;
+    let n = left.states();
+    let (front, back) = to.split_at_mut(n);
     if row < n {
-        copy_block(shelf, left.matrix_row(letter, row), work, to, n);
-        clear_block(work, to + n, m);
+        front.copy_from_slice(left.matrix_row(letter, row));
+        write_zeros(back);
     } else {
-        clear_block(work, to, n);
-        copy_block(shelf, right.matrix_row(letter, row - n), work, to + n, m);
-    }
-}
-
-// The rows of all matrices of the sum, one after another.
-fn write_sum_rows<F: Field>(shelf: &[F], left: TableAt, right: TableAt, work: &mut [F], to: usize)
-    requires left_lies { Lies (length shelf.now) left }
-    requires right_lies { Lies (length shelf.now) right }
-    requires same_letters { left.letters ≡ right.letters }
-    requires room { to + left.letters * (left.states + right.states) * (left.states + right.states) ≤ length work.old }
-    ensures rows_of_sum_table { RowsWritten F.field F.value to (left.letters * (left.states + right.states)) (left.states + right.states) (λ r. (sum_table F.field (table_of F.field F.value shelf.now left) (table_of F.field F.value shelf.now right)).step (r / (left.states + right.states) + 1) (r % (left.states + right.states))) work.old work.new }
-{
-    let n = left.states + right.states;
-    for r in 0..left.letters * n {
-        write_sum_row(shelf, left, right, r / n + 1, r % n, work, to + r * n);
+        write_zeros(front);
+        back.copy_from_slice(right.matrix_row(letter, row - n));
     }
 }
 
 /// The sum of two tables: the first table's states, then the second's.
-pub fn sum<F: Field>(shelf: &[F], left: TableAt, right: TableAt, work: &mut [F], to: usize)
-    requires left_lies { Lies (length shelf.now) left }
-    requires right_lies { Lies (length shelf.now) right }
-    requires same_letters { left.letters ≡ right.letters }
-    requires few_states { left.states + right.states ≤ 16 }
-    requires room { to + table_size (left.states + right.states) left.letters ≤ length work.old }
-    ensures sum_written { TableWritten F.field F.value to (sum_table F.field (table_of F.field F.value shelf.now left) (table_of F.field F.value shelf.now right)) work.old work.new }
-    ensures weighs_the_sum { Weighs F.field (table_at F.field F.value work.new to (left.states + right.states) left.letters) (λ w. F.field.plus (weight F.field (table_of F.field F.value shelf.now left) w) (weight F.field (table_of F.field F.value shelf.now right) w)) }
+pub fn sum<F: Field>(left: TableRef<'_, F>, right: TableRef<'_, F>, to: &mut [F])
+    requires same_letters { left.shape.letters ≡ right.shape.letters }
+    requires few_states { left.shape.states + right.shape.states ≤ 16 }
+    requires as_long { length to.old ≡ table_size (left.shape.states + right.shape.states) left.shape.letters }
+    ensures sum_written { HoldsTable F.field F.value (sum_table F.field (table_of F.field F.value left.entry) (table_of F.field F.value right.entry)) to.new }
+    ensures weighs_the_sum { Weighs F.field (table_at F.field F.value to.new 0 (left.entry.shape.states + right.entry.shape.states) left.entry.shape.letters) (λ w. F.field.plus (weight F.field (table_of F.field F.value left.entry) w) (weight F.field (table_of F.field F.value right.entry) w)) }
 {
-    let made = TableAt {
-        base: to,
-        states: left.states + right.states,
-        letters: left.letters,
-    };
-    write_beside(
-        shelf,
-        left.base,
-        left.states,
-        right.base,
-        right.states,
-        work,
+    let shape = Shape::new(left.states() + right.states(), left.letters());
+    let (left_start, right_start) = (left.start(), right.start());
+    let (left_end, right_end) = (left.end(), right.end());
+    write_table(
+        shape,
         to,
-    );
-    write_sum_rows(shelf, left, right, work, to + made.states);
-    write_beside(
-        shelf,
-        left.end(),
-        left.states,
-        right.end(),
-        right.states,
-        work,
-        made.end(),
+        |start| write_beside(left_start, right_start, start),
+        |letter, i, row| write_sum_row(left, right, letter, i, row),
+        |end| write_beside(left_end, right_end, end),
     );
 }

@@ -1,8 +1,9 @@
-//! The tables that sum, scale, multiply, after and turn define, each written into work memory from tables that lie on
-//! the shelf, which is only read; and the copy of a finished table to the shelf.
+//! The tables that sum, scale, multiply, after and turn define, each written into a slice that is exactly as long, from
+//! tables that are only read.
 #![tactic(auto)]
 
 pub mod addition;
 pub mod adjusting;
 pub mod multiplication;
+mod parts;
 pub mod turning;

@@ -1,49 +1,41 @@
-//! A table turned, which reads words backwards, written into work memory from a table that lies on the shelf, which is
-//! only read.
-ghost use Rattle.std.specs.Prelude.{◌≡◌, reverse, ℕ, ◌+◌, ◌*◌, ◌/◌, ◌%◌, ◌<◌, ◌≤◌, length};
+//! A table turned, which reads words backwards.
+ghost use Rattle.std.specs.Prelude.{◌≡◌, reverse, ◌<◌, ◌≤◌, length};
 ghost use Rattle.series.specs.Tables.{weight};
 ghost use Rattle.series.specs.Operations.{turned_table};
-ghost use Rattle.rows.specs.Memory.{at, Written, RowsWritten};
 ghost use Rattle.rows.specs.Layout.{table_size, table_at};
-ghost use Rattle.rows.specs.Tables.{Lies, Weighs, table_of, TableWritten};
+ghost use Rattle.rows.specs.Seen.{table_of, RowOf, HoldsTable};
+ghost use Rattle.rows.specs.Tables.{Weighs};
 
+use crate::parts::write_table;
 use field::Field;
-use rows::blocks::copy_block;
-use rows::layout::TableAt;
+use rows::table::TableRef;
 
-// A column of n elements of the shelf, n apart from `from` on, as a row.
-fn write_column<F: Field>(shelf: &[F], from: usize, n: usize, work: &mut [F], to: usize)
-    requires column_within { (j : ℕ) → j < n → from + j * n < length shelf.now }
-    requires to_within { to + n ≤ length work.old }
-    ensures column_written { Written F.field F.value to n (λ j. at F.field F.value shelf.now (from + j * n)) work.old work.new }
+// A row of a letter's mirrored matrix: a column of its matrix.
+fn write_turned_row<F: Field>(table: TableRef<'_, F>, letter: usize, row: usize, to: &mut [F])
+    requires letter_of_table { (1 ≤ letter) × (letter ≤ table.shape.letters) }
+    requires row_of_table { row < table.shape.states }
+    requires as_long { length to.old ≡ table.shape.states }
+    ensures row_of_turned_table { RowOf F.field F.value table.entry.shape.states ((turned_table F.field (table_of F.field F.value table.entry)).step letter row) to.new }
 {
-    for j in 0..n {
-        work[to + j] = shelf[from + j * n];
-    }
-}
-
-// The rows of all mirrored matrices, one after another.
-fn write_turned_rows<F: Field>(shelf: &[F], table: TableAt, work: &mut [F], to: usize)
-    requires table_lies { Lies (length shelf.now) table }
-    requires room { to + table.letters * table.states * table.states ≤ length work.old }
-    ensures rows_of_turned_table { RowsWritten F.field F.value to (table.letters * table.states) table.states (λ r. (turned_table F.field (table_of F.field F.value shelf.now table)).step (r / table.states + 1) (r % table.states)) work.old work.new }
-{
-    let n = table.states;
-    for r in 0..table.letters * n {
-        write_column(shelf, table.matrix(r / n + 1) + r % n, n, work, to + r * n);
+    let n = table.states();
+    let matrix = table.matrix(letter);
+    for (j, x) in to.iter_mut().enumerate() {
+        *x = matrix[j * n + row];
     }
 }
 
 /// A table turned: start and end exchanged, matrices mirrored in the diagonal.
-pub fn turn<F: Field>(shelf: &[F], table: TableAt, work: &mut [F], to: usize)
-    requires table_lies { Lies (length shelf.now) table }
-    requires room { to + table_size table.states table.letters ≤ length work.old }
-    ensures turned_written { TableWritten F.field F.value to (turned_table F.field (table_of F.field F.value shelf.now table)) work.old work.new }
-    ensures weighs_words_backwards { Weighs F.field (table_at F.field F.value work.new to table.states table.letters) (λ w. weight F.field (table_of F.field F.value shelf.now table) (reverse w)) }
+pub fn turn<F: Field>(table: TableRef<'_, F>, to: &mut [F])
+    requires as_long { length to.old ≡ table_size table.shape.states table.shape.letters }
+    ensures turned_written { HoldsTable F.field F.value (turned_table F.field (table_of F.field F.value table.entry)) to.new }
+    ensures weighs_words_backwards { Weighs F.field (table_at F.field F.value to.new 0 table.entry.shape.states table.entry.shape.letters) (λ w. weight F.field (table_of F.field F.value table.entry) (reverse w)) }
 {
-    let n = table.states;
-    let made = TableAt { base: to, ..table };
-    copy_block(shelf, table.end(), work, to, n);
-    write_turned_rows(shelf, table, work, to + n);
-    copy_block(shelf, table.base, work, made.end(), n);
+    let (start, end) = (table.start(), table.end());
+    write_table(
+        table.shape(),
+        to,
+        |row| row.copy_from_slice(end),
+        |letter, i, row| write_turned_row(table, letter, i, row),
+        |column| column.copy_from_slice(start),
+    );
 }

@@ -1,8 +1,9 @@
 //! Tests of the tables made of tables: the weights of five words under each, over several fields.
 #![tactic(auto)]
 
-ghost use Rattle.std.specs.Prelude.{◌+◌, ◌≤◌, length};
-ghost use Rattle.rows.specs.Tables.{Lies};
+ghost use Rattle.std.specs.Prelude.{◌≡◌, ◌+◌, ◌≤◌, length};
+ghost use Rattle.operations.specs.Rows.{TakesPart};
+ghost use Rattle.rows.specs.Layout.{table_size};
 
 #[cfg(test)]
 mod tests {
@@ -10,11 +11,12 @@ mod tests {
     use field::Field;
     use loose::Loose;
     use operations::addition::sum;
-    use operations::adjusting::{after, copy_table, scale};
+    use operations::adjusting::{after, scale};
     use operations::multiplication::multiply;
     use operations::turning::turn;
     use residue::{Bit, Fermat};
     use rows::layout::TableAt;
+    use rows::table::{Shape, TableRef};
     use rows::weighing::weigh;
     use std::process::Abort;
     use std::test::Fail;
@@ -29,19 +31,14 @@ mod tests {
     // A table of one state and two letters.
     const SECOND: [[u64; 4]; 3] = [[1, 1, 0, 1], [40000, 50000, 3, 60000], [83, 202, 3, 87]];
 
-    // Writes elements by their codes from `at` on.
-    fn put<F: Field>(
-        rt: &impl Abort,
-        memory: &mut [F],
-        at: usize,
-        codes: &[u64],
-    ) -> Result<(), Fail> {
-        assert!(rt; at <= memory.len() && codes.len() <= memory.len() - at);
-        for (i, code) in codes.iter().enumerate() {
-            let Some(x) = F::from_code(*code) else {
+    // Writes elements by their codes.
+    fn put<F: Field>(rt: &impl Abort, memory: &mut [F], codes: &[u64]) -> Result<(), Fail> {
+        assert_eq!(rt; memory.len(), codes.len());
+        for (x, code) in memory.iter_mut().zip(codes) {
+            let Some(element) = F::from_code(*code) else {
                 return Err(Fail::new("a code is refused"));
             };
-            memory[at + i] = x;
+            *x = element;
         }
         Ok(())
     }
@@ -49,16 +46,19 @@ mod tests {
     // Checks the weight of a word.
     fn check_weight<F: Field>(
         rt: &impl Abort,
-        memory: &[F],
-        table: TableAt,
+        table: TableRef<'_, F>,
         word: &[u8],
         scratch: &mut [F],
         expected: u64,
     ) -> Result<(), Fail>
-        requires table_lies { Lies (length memory.now) table }
-        requires two_rows_fit { table.states + table.states ≤ length scratch.old }
+        requires two_rows_fit { table.shape.states + table.shape.states ≤ length scratch.old }
     {
-        match weigh(memory, table, word, scratch) {
+        let at = TableAt {
+            base: 0,
+            states: table.states(),
+            letters: table.letters(),
+        };
+        match weigh(table.elements(), at, word, scratch) {
             Ok(x) => {
                 assert_eq!(rt; x.code(), expected);
                 Ok(())
@@ -70,128 +70,118 @@ mod tests {
     // Checks the weights of the words (), 1, 2, 12 and 211.
     fn check_weights<F: Field>(
         rt: &impl Abort,
-        memory: &[F],
-        table: TableAt,
+        table: TableRef<'_, F>,
         scratch: &mut [F],
         expected: [u64; 5],
     ) -> Result<(), Fail>
-        requires table_lies { Lies (length memory.now) table }
-        requires two_rows_fit { table.states + table.states ≤ length scratch.old }
+        requires two_rows_fit { table.shape.states + table.shape.states ≤ length scratch.old }
     {
-        check_weight(rt, memory, table, &[], scratch, expected[0])?;
-        check_weight(rt, memory, table, &[1], scratch, expected[1])?;
-        check_weight(rt, memory, table, &[2], scratch, expected[2])?;
-        check_weight(rt, memory, table, &[1, 2], scratch, expected[3])?;
-        check_weight(rt, memory, table, &[2, 1, 1], scratch, expected[4])
+        check_weight(rt, table, &[], scratch, expected[0])?;
+        check_weight(rt, table, &[1], scratch, expected[1])?;
+        check_weight(rt, table, &[2], scratch, expected[2])?;
+        check_weight(rt, table, &[1, 2], scratch, expected[3])?;
+        check_weight(rt, table, &[2, 1, 1], scratch, expected[4])
     }
 
-    const TWO_STATES: TableAt = TableAt {
-        base: 0,
-        states: 2,
-        letters: 2,
-    };
-
-    const ONE_STATE: TableAt = TableAt {
-        base: 12,
-        states: 1,
-        letters: 2,
-    };
-
-    // The sum, in which the tables have three states together.
-    fn check_sum<F: Field>(
+    // The table that an operation makes within work memory.
+    fn check_made<F: Field, M: FnOnce(&mut [F])>(
         rt: &impl Abort,
-        shelf: &[F],
+        shape: Shape,
+        make: M,
         work: &mut [F],
         scratch: &mut [F],
         expected: [u64; 5],
-    ) -> Result<(), Fail> {
-        assert!(rt; shelf.len() == 16 && work.len() == 64 && scratch.len() == 8);
-        sum(shelf, TWO_STATES, ONE_STATE, work, 10);
-        let made = TableAt {
-            base: 10,
-            states: 3,
-            letters: 2,
-        };
-        check_weights(rt, work, made, scratch, expected)
+    ) -> Result<(), Fail>
+        requires slice_taken { TakesPart M.FnOnce make (table_size shape.states shape.letters) }
+        requires two_rows_fit { shape.states + shape.states ≤ length scratch.old }
+    {
+        let size = shape.size();
+        assert!(rt; 10 + size <= work.len());
+        let to = &mut work[10..10 + size];
+        make(to);
+        check_weights(rt, TableRef::new(to, shape), scratch, expected)
     }
 
-    fn check_multiple<F: Field>(
-        rt: &impl Abort,
-        shelf: &[F],
-        work: &mut [F],
-        scratch: &mut [F],
-        code: u64,
-        expected: [u64; 5],
-    ) -> Result<(), Fail> {
-        assert!(rt; shelf.len() == 16 && work.len() == 64 && scratch.len() == 8);
-        let Some(factor) = F::from_code(code) else {
-            return Err(Fail::new("the factor is refused"));
-        };
-        scale(shelf, TWO_STATES, factor, work, 0);
-        check_weights(rt, work, TWO_STATES, scratch, expected)
-    }
-
-    fn check_product<F: Field>(
-        rt: &impl Abort,
-        shelf: &[F],
-        work: &mut [F],
-        scratch: &mut [F],
-        expected: [u64; 5],
-    ) -> Result<(), Fail> {
-        assert!(rt; shelf.len() == 16 && work.len() == 64 && scratch.len() == 8);
-        multiply(shelf, TWO_STATES, ONE_STATE, work, 0);
-        check_weights(rt, work, TWO_STATES, scratch, expected)
-    }
-
-    fn check_after_two<F: Field>(
-        rt: &impl Abort,
-        shelf: &[F],
-        work: &mut [F],
-        scratch: &mut [F],
-        expected: [u64; 5],
-    ) -> Result<(), Fail> {
-        assert!(rt; shelf.len() == 16 && work.len() == 64 && scratch.len() == 8);
-        after(shelf, TWO_STATES, 2, work, 0);
-        check_weights(rt, work, TWO_STATES, scratch, expected)
-    }
-
-    // The table turned, and copied over the one that was read.
-    fn check_turned<F: Field>(
-        rt: &impl Abort,
-        shelf: &mut [F],
-        work: &mut [F],
-        scratch: &mut [F],
-        expected: [u64; 5],
-    ) -> Result<(), Fail> {
-        assert!(rt; shelf.len() == 16 && work.len() == 64 && scratch.len() == 8);
-        turn(shelf, TWO_STATES, work, 40);
-        copy_table(work, 40, shelf, TWO_STATES);
-        check_weights(rt, shelf, TWO_STATES, scratch, expected)
-    }
-
-    // All operations on the tables of one case, with the expected weights in the order of the calls.
+    // All operations on two tables, with the expected weights in the order of the calls.
     fn check_operations<F: Field>(
         rt: &impl Abort,
-        shelf: &mut [F],
+        left: TableRef<'_, F>,
+        right: TableRef<'_, F>,
+        factor: F,
+        work: &mut [F],
+        scratch: &mut [F],
+        expected: &[[u64; 5]; 5],
+    ) -> Result<(), Fail>
+        requires shapes { (left.shape.states ≡ 2) × (left.shape.letters ≡ 2) × (right.shape.states ≡ 1) × (right.shape.letters ≡ 2) }
+        requires two_rows_fit { 6 ≤ length scratch.old }
+    {
+        let three_states = Shape::new(3, 2);
+        let two_states = Shape::new(2, 2);
+        check_made(
+            rt,
+            three_states,
+            |to| sum(left, right, to),
+            work,
+            scratch,
+            expected[0],
+        )?;
+        check_made(
+            rt,
+            two_states,
+            |to| scale(left, factor, to),
+            work,
+            scratch,
+            expected[1],
+        )?;
+        check_made(
+            rt,
+            two_states,
+            |to| multiply(left, right, to),
+            work,
+            scratch,
+            expected[2],
+        )?;
+        check_made(
+            rt,
+            two_states,
+            |to| after(left, 2, to),
+            work,
+            scratch,
+            expected[3],
+        )?;
+        check_made(
+            rt,
+            two_states,
+            |to| turn(left, to),
+            work,
+            scratch,
+            expected[4],
+        )
+    }
+
+    fn check_case<F: Field>(
+        rt: &impl Abort,
+        first: &mut [F],
+        second: &mut [F],
         work: &mut [F],
         scratch: &mut [F],
         case: usize,
         factor: u64,
         expected: &[[u64; 5]; 5],
     ) -> Result<(), Fail> {
-        assert!(rt; case < 3);
-        put(rt, shelf, 0, &FIRST[case])?;
-        put(rt, shelf, 12, &SECOND[case])?;
-        check_sum(rt, shelf, work, scratch, expected[0])?;
-        check_multiple(rt, shelf, work, scratch, factor, expected[1])?;
-        check_product(rt, shelf, work, scratch, expected[2])?;
-        check_after_two(rt, shelf, work, scratch, expected[3])?;
-        check_turned(rt, shelf, work, scratch, expected[4])
+        assert!(rt; case < 3 && first.len() == 12 && second.len() == 4 && scratch.len() == 8);
+        put(rt, first, &FIRST[case])?;
+        put(rt, second, &SECOND[case])?;
+        let Some(factor) = F::from_code(factor) else {
+            return Err(Fail::new("the factor is refused"));
+        };
+        let left = TableRef::new(first, Shape::new(2, 2));
+        let right = TableRef::new(second, Shape::new(1, 2));
+        check_operations(rt, left, right, factor, work, scratch, expected)
     }
 
     #[test]
     fn over_two_elements(rt: HostRuntime) -> Result<(), Fail> {
-        let zero = Bit::zero();
         let expected = [
             [0, 0, 0, 1, 1],
             [1, 1, 0, 1, 1],
@@ -199,9 +189,11 @@ mod tests {
             [0, 1, 1, 0, 0],
             [1, 1, 0, 1, 1],
         ];
-        check_operations(
+        let zero = Bit::zero();
+        check_case(
             &rt,
-            &mut [zero; 16],
+            &mut [zero; 12],
+            &mut [zero; 4],
             &mut [zero; 64],
             &mut [zero; 8],
             0,
@@ -212,7 +204,6 @@ mod tests {
 
     #[test]
     fn over_bytes(rt: HostRuntime) -> Result<(), Fail> {
-        let zero = Byte::zero();
         let expected = [
             [241, 100, 50, 29, 78],
             [118, 189, 208, 125, 144],
@@ -220,9 +211,11 @@ mod tests {
             [15, 193, 154, 181, 206],
             [19, 51, 15, 193, 243],
         ];
-        check_operations(
+        let zero = Byte::zero();
+        check_case(
             &rt,
-            &mut [zero; 16],
+            &mut [zero; 12],
+            &mut [zero; 4],
             &mut [zero; 64],
             &mut [zero; 8],
             2,
@@ -242,9 +235,10 @@ mod tests {
             [35, 335, 503, 4438, 40147],
         ];
         let zero = Fermat::zero();
-        check_operations(
+        check_case(
             &rt,
-            &mut [zero; 16],
+            &mut [zero; 12],
+            &mut [zero; 4],
             &mut [zero; 64],
             &mut [zero; 8],
             1,
@@ -252,9 +246,10 @@ mod tests {
             &expected,
         )?;
         let zero = Loose::<65537>::zero();
-        check_operations(
+        check_case(
             &rt,
-            &mut [zero; 16],
+            &mut [zero; 12],
+            &mut [zero; 4],
             &mut [zero; 64],
             &mut [zero; 8],
             1,

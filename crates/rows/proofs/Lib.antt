@@ -7,3 +7,4 @@ pub mod Slices
 pub mod Splits
 pub mod Parts
 pub mod Shapes
+pub mod Held

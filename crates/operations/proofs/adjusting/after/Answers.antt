@@ -1,20 +1,25 @@
-use mathlib.Core.Path.{◌∙◌}
-use native.Mathlib.Omega.{arith}
+use Rattle.std.proofs.Common.{ap, ◌∙◌}
+use Rattle.series.specs.Tables.{move}
 use Rattle.series.specs.Operations.{after_table}
 use Rattle.series.proofs.Operations.{after_weight}
-use Rattle.rows.specs.Layout.{table_size}
-use Rattle.rows.specs.Memory.{Copied}
-use Rattle.rows.specs.Tables.{table_of}
-use Rattle.rows.proofs.Tables.{copied_table, start_replaced, written_weighs}
+use Rattle.rows.specs.Memory.{at, square_at}
+use Rattle.rows.specs.Seen.{table_of}
+use Rattle.rows.proofs.Sums.{dot_same}
+use Rattle.rows.proofs.Held.{held_itself, held_but_start, held_weighs, row_long, row_same}
 use Rattle.operations.proofs.adjusting.after.Goals as goal
 
 pub returns : goal.returns
 returns g c =
     let K = g.F.Field.field in let v = g.F.Field.value in
-    let t = c.args.table in
-    let T = table_of K v c.args.shelf.now t in
-    let copied : Copied c.args.to (table_size t.states t.letters) c.args.shelf.now t.base c.args.work.now c.copy_block.new.work =
-    simp c.size.ensures.is_table_size at c.copy_block.ensures.very_elements_copied in
-    let same = copied_table K v t.states t.letters t.base copied (omega arith) (omega arith) in
-    let made = start_replaced K v T same c.write_start_after.ensures.row_after_letter in
-    record { after_written = made; weighs_what_follows_the_letter = λ w o. written_weighs K v (after_table K c.args.letter T) made w o ∙ after_weight K c.args.letter T w }
+    let T = table_of K v c.args.table in
+    let start = c.start.result.now in
+    let matrix = c.matrix.result.now in
+    let row = c.start.ensures.start_row in
+    let first =
+    row_same K v (row_long K v c.row_times_matrix.ensures.product_written row.len)
+    (λ j l.
+    ap (λ m. move K m (square_at K v matrix 0 m) (at K v start) j) row.len
+    ∙ dot_same K T.states row.same (λ i h. c.matrix.ensures.matrix_of_letter.same i h j l)) in
+    let rest = simp (c.elements.ensures.told, c.states-n.ensures.told) at c.copy_from_slice.ensures.after in
+    let made = held_but_start K v T c.args.table.elements.now c.row_times_matrix.new.to c.copy_from_slice.new.self (held_itself K v c.args.table) first rest in
+    record { after_written = made; weighs_what_follows_the_letter = λ w o. held_weighs K v (after_table K c.args.letter T) _ made w o ∙ after_weight K c.args.letter T w }

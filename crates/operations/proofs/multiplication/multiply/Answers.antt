@@ -1,20 +1,29 @@
-use mathlib.Core.Path.{◌∙◌}
-use Rattle.series.specs.Operations.{product_table}
+use Rattle.std.proofs.Common.{rules, ap₂, ◌*◌, ◌∙◌, length, arith}
+use Rattle.series.specs.Operations.{product_table, crossed}
 use Rattle.series.proofs.ProductTables.{product_weight}
-use Rattle.rows.specs.Memory.{Written}
-use Rattle.rows.specs.Layout.{end_offset}
-use Rattle.rows.specs.Tables.{table_of}
-use Rattle.rows.proofs.Tables.{table_from_parts, written_weighs}
+use Rattle.rows.specs.Memory.{at}
+use Rattle.rows.specs.Seen.{table_of, RowOf}
+use Rattle.rows.proofs.Held.{held_weighs}
+use Rattle.operations.proofs.Products.{products_of}
+use Rattle.operations.proofs.Rows.{held_by_calls}
 use Rattle.operations.proofs.multiplication.multiply.Goals as goal
 
 pub returns : goal.returns
 returns g c =
     let K = g.F.Field.field in let v = g.F.Field.value in
-    let s = c.args.left in
-    let t = c.args.right in
-    let xs = c.args.shelf.now in
-    let T = product_table K (table_of K v xs s) (table_of K v xs t) in
-    let last : Written K v (end_offset c.args.to T.states T.letters) T.states T.end c.write_product_rows.new.work c.write_products-2.new.work =
-    simp (c.end.ensures.is_end_offset, c.end-2.ensures.is_end_offset, c.end-3.ensures.is_end_offset) at c.write_products-2.ensures.products_written in
-    let made = table_from_parts K v T c.write_products.ensures.products_written c.write_product_rows.ensures.rows_of_product_table last in
-    record { product_written = made; weighs_the_product = λ w o. written_weighs K v T made w o ∙ product_weight K (table_of K v xs s) (table_of K v xs t) w }
+    let S = table_of K v c.args.left in
+    let T = table_of K v c.args.right in
+    let done = c.write_table.ensures in
+    let start = done.start_written.call in
+    let end = done.end_written.call in
+    let x = c.start-left_start.result.now in let y = c.start-right_start.result.now in
+    let first : RowOf K v (length x * length y) (crossed K (length y) (at K v x) (at K v y)) done.start_written.after_call.now = search rules in
+    let p = c.end-left_end.result.now in let q = c.end-right_end.result.now in
+    let last : RowOf K v (length p * length q) (crossed K (length q) (at K v p) (at K v q)) done.end_written.after_call.now = search rules in
+    let made =
+    held_by_calls K v (product_table K S T) done.start_written done.rows_written done.end_written
+    (c.new-shape.ensures.of_states ∙ ap₂ (λ a b. a * b) c.states.ensures.told c.states-2.ensures.told) (omega arith) (omega arith)
+    (products_of K v c.start-left_start.ensures.start_row c.start-right_start.ensures.start_row first)
+    (λ a i low high l. let row = (done.rows_written a i low high l).call in search rules)
+    (products_of K v c.end-left_end.ensures.end_column c.end-right_end.ensures.end_column last) in
+    record { product_written = made; weighs_the_product = λ w o. held_weighs K v (product_table K S T) c.write_table.new.to made w o ∙ product_weight K S T w }
