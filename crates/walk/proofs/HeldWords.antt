@@ -10,11 +10,11 @@ use Rattle.series.proofs.Bases.{basis_none, basis_fresh, basis_not_fresh}
 use Rattle.series.proofs.Echelons.{echelon_few}
 use Rattle.series.proofs.Places.{range, range_has, range_are}
 use Rattle.rows.specs.Memory.{at, row_at, square_at, Frame}
-use Rattle.rows.proofs.Memory.{frame_below, frame_above}
+use Rattle.rows.proofs.Memory.{frame_below}
 use Rattle.elimination.specs.Elimination.{NothingLeft, NewRow}
-use Rattle.walk.specs.Walking.{Held, echelon_base}
+use Rattle.walk.specs.Walking.{Held}
 use Rattle.elimination.proofs.Bases.{basis_same, basis_grow}
-use Rattle.elimination.proofs.Offsets.{entry_before, rows_room}
+use Rattle.elimination.proofs.Offsets.{entry_before}
 use Rattle.elimination.proofs.Remainders.{new_same, new_one}
 use Rattle.elimination.proofs.Updates.{updated, updated_here, updated_other}
 
@@ -25,87 +25,69 @@ module _ {F V : Type 0} (K : FiniteField V) (v : F → V) (S T : Table V) where
   abbrev R : Word → ℕ → V
   R = pair K S T
 
-  pub held_none : (ws : List F) (ps : List ℕ) → Held K v S T 0 (λ i. []) ws ps
-  held_none ws ps =
+  pub held_none : (rs es : List F) (ps : List ℕ) → Held K v S T 0 (λ i. []) rs es ps
+  held_none rs es ps =
       record {
         rows = λ i l. absurd (omega arith);
-        basis = basis_none K (λ i. i < d) R (λ i. []) (square_at K v ws echelon_base d) (λ b. get_or ps b 0);
+        basis = basis_none K (λ i. i < d) R (λ i. []) (square_at K v es 0 d) (λ b. get_or ps b 0);
         ones = λ i l. absurd (omega arith);
         alike = λ i l. absurd (omega arith);
       }
 
-  pub held_few : (count : ℕ) (words : ℕ → Word) (ws : List F) (ps : List ℕ) → Held K v S T count words ws ps → count ≤ d
-  held_few count words ws ps h = echelon_few K d count (square_at K v ws echelon_base d) (λ b. get_or ps b 0) h.basis.stairs
+  pub held_few : (count : ℕ) (words : ℕ → Word) (rs es : List F) (ps : List ℕ) → Held K v S T count words rs es ps → count ≤ d
+  held_few count words rs es ps h = echelon_few K d count (square_at K v es 0 d) (λ b. get_or ps b 0) h.basis.stairs
 
-  -- both kinds of rows have the values they had
-  held_same : (count : ℕ) (words : ℕ → Word) (ws ws' : List F) (ps : List ℕ) → ((j : ℕ) → j < count * d → at K v ws' j ≡ at K v ws j) → ((j : ℕ) → j < count * d → at K v ws' (echelon_base + j) ≡ at K v ws (echelon_base + j))
-      → Held K v S T count words ws ps → Held K v S T count words ws' ps
-  held_same count words ws ws' ps low high h =
-      record {
-        rows = λ i l j b. low (i * d + j) (entry_before i d j count l b) ∙ h.rows i l j b;
-        basis = basis_same K d count R words (square_at K v ws echelon_base d) (square_at K v ws' echelon_base d) (λ b. get_or ps b 0) (λ b l j g. high (b * d + j) (entry_before b d j count l g)) h.basis;
-        ones = λ b l. high (b * d + get_or ps b 0) (entry_before b d (get_or ps b 0) count l (h.basis.stairs.within b l)) ∙ h.ones b l;
-        alike = h.alike;
-      }
+  -- a row is written behind the pair rows, and another behind the rows in echelon form
+  module _ (count : ℕ) (words : ℕ → Word) (rs rs' es es' : List F) (ps : List ℕ) (same : (j : ℕ) → j < count * d → at K v rs' j ≡ at K v rs j) (f : Frame (count * d) d es es') (h : Held K v S T count words rs es ps) where
+    high : (j : ℕ) → j < count * d → at K v es' (0 + j) ≡ at K v es (0 + j)
+    high j l = frame_below K v f (0 + j) (omega arith)
 
-  -- a row is written behind the pair rows, or behind the rows in echelon form
-  module _ (small : d ≤ 32) (count : ℕ) (words : ℕ → Word) (ws ws' : List F) (ps : List ℕ) (few : count ≤ d) where
-    pub held_first : Frame (count * d) d ws ws' → Held K v S T count words ws ps → Held K v S T count words ws' ps
-    held_first f h =
-        let room = rows_room count d few small in
-        held_same count words ws ws' ps (λ j l. frame_below K v f j l) (λ j l. frame_above K v f (echelon_base + j) (omega arith)) h
-
-    pub held_second : Frame (echelon_base + count * d) d ws ws' → Held K v S T count words ws ps → Held K v S T count words ws' ps
-    held_second f h =
-        let room = rows_room count d few small in
-        held_same count words ws ws' ps (λ j l. frame_below K v f j (omega arith)) (λ j l. frame_below K v f (echelon_base + j) (omega arith)) h
+    pub held_same : Held K v S T count words rs' es' ps
+    held_same =
+        record {
+          rows = λ i l j b. same (i * d + j) (entry_before i d j count l b) ∙ h.rows i l j b;
+          basis = basis_same K d count R words (square_at K v es 0 d) (square_at K v es' 0 d) (λ b. get_or ps b 0) (λ b l j g. high (b * d + j) (entry_before b d j count l g)) h.basis;
+          ones = λ b l. high (b * d + get_or ps b 0) (entry_before b d (get_or ps b 0) count l (h.basis.stairs.within b l)) ∙ h.ones b l;
+          alike = h.alike;
+        }
 
     -- one word more, whose pair row lies behind those of the others
-    pub held_grow : (ps' : List ℕ) (x : Word) (b : ℕ) → Agree d (row_at K v ws (count * d)) (R x)
-        → NewRow K d count (square_at K v ws echelon_base d) (λ b. get_or ps b 0) (R x) b (row_at K v ws' (echelon_base + count * d)) → Frame (echelon_base + count * d) d ws ws'
+    pub held_grow : (ps' : List ℕ) (x : Word) (b : ℕ) → Agree d (row_at K v rs' (count * d)) (R x)
+        → NewRow K d count (square_at K v es 0 d) (λ b. get_or ps b 0) (R x) b (row_at K v es' (count * d))
         → ((i : ℕ) → i < count → get_or ps' i 0 ≡ get_or ps i 0) → get_or ps' count 0 ≡ b
         → weight K S x ≡ weight K T x
-        → Held K v S T count words ws ps → Held K v S T (suc count) (updated count words x) ws' ps'
-    held_grow ps' x b new w f olds here same h =
+        → Held K v S T (suc count) (updated count words x) rs' es' ps'
+    held_grow ps' x b new w olds here alike =
         record {
           rows = λ i l j g. rows i j g (ℕ_discrete i count) l;
-          basis = basis_grow K d count R words (square_at K v ws echelon_base d) (square_at K v ws' echelon_base d) (λ b. get_or ps b 0) (λ b. get_or ps' b 0) x b h.basis w' (λ b l j g. high (b * d + j) (entry_before b d j count l g)) olds here;
+          basis = basis_grow K d count R words (square_at K v es 0 d) (square_at K v es' 0 d) (λ b. get_or ps b 0) (λ b. get_or ps' b 0) x b h.basis w' (λ b l j g. high (b * d + j) (entry_before b d j count l g)) olds here;
           ones = λ i l. ones i (ℕ_discrete i count) l;
           alike = λ i l. alikes i (ℕ_discrete i count) l;
         }
       where
-        room : count * d + d ≤ 1056
-        room = rows_room count d few small
+        w' : NewRow K d count (square_at K v es 0 d) (λ b. get_or ps b 0) (R x) b (square_at K v es' 0 d count)
+        w' = new_same K d count (square_at K v es 0 d) (λ b. get_or ps b 0) (R x) (R x) b (row_at K v es' (count * d)) (square_at K v es' 0 d count) (λ j l. refl) (λ j l. ap (at K v es') (omega arith)) w
 
-        low : (j : ℕ) → j < count * d + d → at K v ws' j ≡ at K v ws j
-        low j l = let r = room in frame_below K v f j (omega arith)
-
-        high : (j : ℕ) → j < count * d → at K v ws' (echelon_base + j) ≡ at K v ws (echelon_base + j)
-        high j l = frame_below K v f (echelon_base + j) (omega arith)
-
-        w' : NewRow K d count (square_at K v ws echelon_base d) (λ b. get_or ps b 0) (R x) b (square_at K v ws' echelon_base d count)
-        w' = new_same K d count (square_at K v ws echelon_base d) (λ b. get_or ps b 0) (R x) (R x) b (row_at K v ws' (echelon_base + count * d)) (square_at K v ws' echelon_base d count) (λ j l. refl) (λ j l. ap (at K v ws') (omega arith)) w
-
-        rows : (i j : ℕ) → j < d → Dec (i ≡ count) → i < suc count → row_at K v ws' (i * d) j ≡ R (updated count words x i) j
-        rows i j g (yes e) l = ap (λ m. at K v ws' (m * d + j)) e ∙ low (count * d + j) (omega arith) ∙ new j g ∙ sym (ap (λ u. R u j) (ap (updated count words x) e ∙ updated_here count words x))
+        rows : (i j : ℕ) → j < d → Dec (i ≡ count) → i < suc count → row_at K v rs' (i * d) j ≡ R (updated count words x i) j
+        rows i j g (yes e) l = ap (λ m. at K v rs' (m * d + j)) e ∙ new j g ∙ sym (ap (λ u. R u j) (ap (updated count words x) e ∙ updated_here count words x))
         rows i j g (no u) l =
             let before = entry_before i d j count (omega arith) g in
-            low (i * d + j) (omega arith) ∙ h.rows i (omega arith) j g ∙ sym (ap (λ u. R u j) (updated_other count words x i u))
+            same (i * d + j) before ∙ h.rows i (omega arith) j g ∙ sym (ap (λ u. R u j) (updated_other count words x i u))
 
-        ones : (i : ℕ) → Dec (i ≡ count) → i < suc count → square_at K v ws' echelon_base d i (get_or ps' i 0) ≡ K.one
-        ones i (yes e) l = ap (λ m. square_at K v ws' echelon_base d m (get_or ps' m 0)) e ∙ ap (square_at K v ws' echelon_base d count) here ∙ new_one K d count (square_at K v ws echelon_base d) (λ b. get_or ps b 0) (R x) b (square_at K v ws' echelon_base d count) w'
+        ones : (i : ℕ) → Dec (i ≡ count) → i < suc count → square_at K v es' 0 d i (get_or ps' i 0) ≡ K.one
+        ones i (yes e) l = ap (λ m. square_at K v es' 0 d m (get_or ps' m 0)) e ∙ ap (square_at K v es' 0 d count) here ∙ new_one K d count (square_at K v es 0 d) (λ b. get_or ps b 0) (R x) b (square_at K v es' 0 d count) w'
         ones i (no u) l =
             let old : i < count = omega arith in
-            ap (square_at K v ws' echelon_base d i) (olds i old) ∙ high (i * d + get_or ps i 0) (entry_before i d (get_or ps i 0) count old (h.basis.stairs.within i old)) ∙ h.ones i old
+            ap (square_at K v es' 0 d i) (olds i old) ∙ high (i * d + get_or ps i 0) (entry_before i d (get_or ps i 0) count old (h.basis.stairs.within i old)) ∙ h.ones i old
 
         alikes : (i : ℕ) → Dec (i ≡ count) → i < suc count → weight K S (updated count words x i) ≡ weight K T (updated count words x i)
-        alikes i (yes e) l = let q : updated count words x i ≡ x = ap (updated count words x) e ∙ updated_here count words x in subst (λ u. weight K S u ≡ weight K T u) (sym q) same
+        alikes i (yes e) l = let q : updated count words x i ≡ x = ap (updated count words x) e ∙ updated_here count words x in subst (λ u. weight K S u ≡ weight K T u) (sym q) alike
         alikes i (no u) l = subst (λ u. weight K S u ≡ weight K T u) (sym (updated_other count words x i u)) (h.alike i (omega arith))
 
   -- whether the word x, to which the walk has come, is kept shows in what is left of its pair row
-  module _ (count : ℕ) (words : ℕ → Word) (ws : List F) (ps : List ℕ) (x : Word) (h : Held K v S T count words ws ps) (s : Scanned (Kept K S T) count words x) where
-    pub held_kept : (b : ℕ) (z : ℕ → V) → Over S.letters x → NewRow K d count (square_at K v ws echelon_base d) (λ b. get_or ps b 0) (R x) b z → Kept K S T x
-    held_kept b z o w = basis_fresh K (λ i. i < d) R S.letters count words (square_at K v ws echelon_base d) (λ b. get_or ps b 0) x s h.basis w.rest w.remainder.taken (range d) (range_has d) (range_are d) o w.remainder.cleared b w.within w.apart
+  module _ (count : ℕ) (words : ℕ → Word) (rs es : List F) (ps : List ℕ) (x : Word) (h : Held K v S T count words rs es ps) (s : Scanned (Kept K S T) count words x) where
+    pub held_kept : (b : ℕ) (z : ℕ → V) → Over S.letters x → NewRow K d count (square_at K v es 0 d) (λ b. get_or ps b 0) (R x) b z → Kept K S T x
+    held_kept b z o w = basis_fresh K (λ i. i < d) R S.letters count words (square_at K v es 0 d) (λ b. get_or ps b 0) x s h.basis w.rest w.remainder.taken (range d) (range_has d) (range_are d) o w.remainder.cleared b w.within w.apart
 
-    pub held_not_kept : NothingLeft K d count (square_at K v ws echelon_base d) (λ b. get_or ps b 0) (R x) → ¬ (Kept K S T x)
-    held_not_kept w = basis_not_fresh K (λ i. i < d) R S.letters count words (square_at K v ws echelon_base d) (λ b. get_or ps b 0) x s h.basis (λ _. K.zero) w.taken (λ q l. refl)
+    pub held_not_kept : NothingLeft K d count (square_at K v es 0 d) (λ b. get_or ps b 0) (R x) → ¬ (Kept K S T x)
+    held_not_kept w = basis_not_fresh K (λ i. i < d) R S.letters count words (square_at K v es 0 d) (λ b. get_or ps b 0) x s h.basis (λ _. K.zero) w.taken (λ q l. refl)

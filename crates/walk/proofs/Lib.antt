@@ -1,5 +1,6 @@
-pub mod PairRows
 pub mod Differences
-pub mod Links
+pub mod PairRows
 pub mod HeldWords
+pub mod LinkedWords
 pub mod WalkSteps
+pub mod WorkRows

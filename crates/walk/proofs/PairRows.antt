@@ -1,20 +1,19 @@
 -- The rows of two tables side by side. Assumes nothing.
-use Rattle.std.proofs.Common.{◌≡◌, ℕ, ◌+◌, ◌-◌, ◌*◌, ◌<◌, ◌≤◌, List, [], ◌∷◌, ◌++◌, sym, refl, ap, ◌∙◌, arith}
-use Rattle.std.proofs.lemmas.Nat.{mul-le}
+use Rattle.std.proofs.Common.{◌≡◌, ℕ, ◌+◌, ◌*◌, ◌<◌, List, [], ◌∷◌, ◌++◌, length, take, drop, sym, ap, ap₂, ◌∙◌, arith, length-append}
+use Rattle.std.proofs.lemmas.List.{take-append-drop}
 use Rattle.field.specs.FiniteField.{FiniteField}
 use Rattle.series.specs.Tables.{Table, dot, move, row, weight, pair, Agree}
 use Rattle.series.specs.Words.{Word}
 use Rattle.series.proofs.Places.{both_parts, beside_left, beside_right}
 use Rattle.series.proofs.Weights.{row_push}
-use Rattle.rows.specs.Layout.{end_offset}
-use Rattle.rows.specs.Memory.{at, row_at}
+use Rattle.rows.specs.Memory.{at, square_at}
+use Rattle.rows.specs.Seen.{RowOf, SquareOf}
 use Rattle.rows.proofs.Sums.{dot_same}
-use Rattle.walk.specs.Pairs.{left_table, right_table}
-use Rattle.walk.specs.declared.pairs.Pair.{Pair}
+use Rattle.rows.proofs.Splits.{at_first, at_second}
 
--- the matrix of a letter lies before the end column
-pub matrix_before : (a k s : ℕ) → 1 ≤ a → a ≤ k → (a - 1) * s + s ≤ k * s
-matrix_before a k s h l = omega (arith, mul-le ((a - 1) + 1) s k s (omega arith) (omega arith))
+-- what split_at answers are the parts
+pub split_parts : {F : Type 0} (xs front back : List F) (n : ℕ) → front ≡ take n xs → back ≡ drop n xs → xs ≡ front ++ back
+split_parts xs front back n e d = sym (ap₂ (λ p q. p ++ q) e d ∙ take-append-drop n xs)
 
 module _ {V : Type 0} (K : FiniteField V) (S T : Table V) where
   pair_left : (u : Word) → Agree S.states (pair K S T u) (row K S u)
@@ -27,29 +26,39 @@ module _ {V : Type 0} (K : FiniteField V) (S T : Table V) where
   pub pair_made : (u : Word) (y : ℕ → V) → Agree S.states y (row K S u) → ((i : ℕ) → i < T.states → y (S.states + i) ≡ row K T u i) → Agree (S.states + T.states) y (pair K S T u)
   pair_made u y e d = both_parts S.states T.states (λ i. y i ≡ pair K S T u i) (λ i l. e i l ∙ sym (pair_left u i l)) (λ i l. d i l ∙ sym (pair_right u i))
 
-  -- each part times the matrix of a letter
-  pub pair_step : (u : Word) (a : ℕ) (x y : ℕ → V) → Agree (S.states + T.states) x (pair K S T u)
-      → Agree S.states y (move K S.states (S.step a) x) → ((j : ℕ) → j < T.states → y (S.states + j) ≡ move K T.states (T.step a) (λ i. x (S.states + i)) j)
-      → Agree (S.states + T.states) y (pair K S T (u ++ a ∷ []))
-  pair_step u a x y e l r =
-      pair_made (u ++ a ∷ []) y
-      (λ j h. l j h ∙ dot_same K S.states (λ i g. e i (omega arith) ∙ pair_left u i g) (λ i g. refl) ∙ sym (ap (λ f. f j) (row_push K S u a)))
-      (λ j h. r j h ∙ dot_same K T.states (λ i g. e (S.states + i) (omega arith) ∙ pair_right u i) (λ i g. refl) ∙ sym (ap (λ f. f j) (row_push K T u a)))
+-- a pair row in a slice, split in its two parts
+module _ {F V : Type 0} (K : FiniteField V) (v : F → V) (S T : Table V) (u : Word) (xs left right : List F) (parts : xs ≡ left ++ right) (long : length left ≡ S.states) where
+  -- a slice that is written in two parts
+  pub pair_written : RowOf K v S.states (row K S u) left → RowOf K v T.states (row K T u) right → RowOf K v (S.states + T.states) (pair K S T u) xs
+  pair_written l r =
+      record {
+        len = ap length parts ∙ length-append left right ∙ ap₂ (λ m n. m + n) l.len r.len;
+        same = pair_made K S T u (at K v xs)
+            (λ i h. sym (at_first K v xs left right S.states parts long i h) ∙ l.same i h)
+            (λ i h. sym (at_second K v xs left right S.states parts long i) ∙ r.same i h);
+      }
 
-  -- each part times an end column
-  weigh_left : (u : Word) (x y : ℕ → V) → Agree (S.states + T.states) x (pair K S T u) → Agree S.states y S.end → dot K S.states x y ≡ weight K S u
-  weigh_left u x y e d = dot_same K S.states (λ i l. e i (omega arith) ∙ pair_left u i l) d
+  module _ (e : Agree (S.states + T.states) (at K v xs) (pair K S T u)) where
+    left_part : Agree S.states (at K v left) (row K S u)
+    left_part i l = at_first K v xs left right S.states parts long i l ∙ e i (omega arith) ∙ pair_left K S T u i l
 
-  weigh_right : (u : Word) (x y : ℕ → V) → Agree (S.states + T.states) x (pair K S T u) → Agree T.states y T.end → dot K T.states (λ i. x (S.states + i)) y ≡ weight K T u
-  weigh_right u x y e d = dot_same K T.states (λ i l. e (S.states + i) (omega arith) ∙ pair_right u i) d
+    right_part : Agree T.states (at K v right) (row K T u)
+    right_part i l = at_second K v xs left right S.states parts long i ∙ e (S.states + i) (omega arith) ∙ pair_right K S T u i
 
--- each part of a pair row in memory times the end column of its table
-module _ {F V : Type 0} (K : FiniteField V) (v : F → V) (xs ws : List F) (both : Pair) (start : ℕ) (u : Word)
-    (e : Agree (both.left.states + both.right.states) (row_at K v ws start) (pair K (left_table K v xs both) (right_table K v xs both) u)) (column : ℕ) where
-  pub left_weighed : column ≡ end_offset both.left.base both.left.states both.left.letters → dot K both.left.states (row_at K v ws start) (λ i. at K v xs (column + i * 1)) ≡ weight K (left_table K v xs both) u
-  left_weighed h = weigh_left K (left_table K v xs both) (right_table K v xs both) u (row_at K v ws start) (λ i. at K v xs (column + i * 1)) e (λ i l. ap (at K v xs) (omega arith))
+    -- each part times the end column of its table
+    pub left_weighed : (end : List F) → RowOf K v S.states S.end end → dot K (length left) (at K v left) (λ i. at K v end (0 + i * 1)) ≡ weight K S u
+    left_weighed end d = ap (λ n. dot K n (at K v left) (λ i. at K v end (0 + i * 1))) long ∙ dot_same K S.states left_part (λ i l. ap (at K v end) (omega arith) ∙ d.same i l)
 
-  pub right_weighed : column ≡ end_offset both.right.base both.right.states both.right.letters → dot K both.right.states (row_at K v ws (start + both.left.states)) (λ i. at K v xs (column + i * 1)) ≡ weight K (right_table K v xs both) u
-  right_weighed h =
-      dot_same K both.right.states (λ i l. ap (at K v ws) (omega arith)) (λ i l. refl)
-      ∙ weigh_right K (left_table K v xs both) (right_table K v xs both) u (row_at K v ws start) (λ i. at K v xs (column + i * 1)) e (λ i l. ap (at K v xs) (omega arith))
+    pub right_weighed : length right ≡ T.states → (end : List F) → RowOf K v T.states T.end end → dot K (length right) (at K v right) (λ i. at K v end (0 + i * 1)) ≡ weight K T u
+    right_weighed h end d = ap (λ n. dot K n (at K v right) (λ i. at K v end (0 + i * 1))) h ∙ dot_same K T.states right_part (λ i l. ap (at K v end) (omega arith) ∙ d.same i l)
+
+    -- each part times the matrix of a letter
+    pub left_moved : (a : ℕ) (m to : List F) → SquareOf K v S.states (S.step a) m → RowOf K v (length left) (move K (length left) (square_at K v m 0 (length left)) (at K v left)) to → RowOf K v S.states (row K S (u ++ a ∷ [])) to
+    left_moved a m to s w =
+        let w' : RowOf K v S.states (move K S.states (square_at K v m 0 S.states) (at K v left)) to = rw long at w in
+        record { len = w'.len; same = λ j l. w'.same j l ∙ dot_same K S.states left_part (λ i h. s.same i h j l) ∙ sym (ap (λ f. f j) (row_push K S u a)) }
+
+    pub right_moved : length right ≡ T.states → (a : ℕ) (m to : List F) → SquareOf K v T.states (T.step a) m → RowOf K v (length right) (move K (length right) (square_at K v m 0 (length right)) (at K v right)) to → RowOf K v T.states (row K T (u ++ a ∷ [])) to
+    right_moved h a m to s w =
+        let w' : RowOf K v T.states (move K T.states (square_at K v m 0 T.states) (at K v right)) to = rw h at w in
+        record { len = w'.len; same = λ j l. w'.same j l ∙ dot_same K T.states right_part (λ i g. s.same i g j l) ∙ sym (ap (λ f. f j) (row_push K T u a)) }

@@ -1,23 +1,21 @@
--- Two tables of one shelf, and the two weights of a word. Assumes nothing.
-use Rattle.std.specs.Prelude.{◌≡◌, ℕ, ◌≢◌, List}
+-- Two tables with one letter count, and the two weights of a word. Assumes nothing.
+use Rattle.std.specs.Prelude.{◌≡◌, ℕ, ◌+◌, ◌≢◌}
 use Rattle.field.specs.FiniteField.{FiniteField}
 use Rattle.series.specs.Tables.{Table, weight}
 use Rattle.series.specs.Words.{Word}
-use Rattle.rows.specs.Tables.{Lies, table_of}
+use Rattle.rows.specs.Seen.{table_of}
 use Rattle.walk.specs.declared.pairs.Pair.{Pair}
 
--- both tables lie in a shelf of so many elements, and have one letter count
-pub record PairLies (len : ℕ) (both : Pair) : Type 0 where
-  pub left_lies : Lies len both.left
-  pub right_lies : Lies len both.right
-  pub same_letters : both.right.letters ≡ both.left.letters
+module _ {F : Type 0} where
+  -- how long a pair row is
+  abbrev pub width : Pair F → ℕ
+  width both = both.left.shape.states + both.right.shape.states
 
-module _ {F V : Type 0} where
-  abbrev pub left_table : FiniteField V → (F → V) → List F → Pair → Table V
-  left_table K value xs both = table_of K value xs both.left
+  abbrev pub left_table : {V : Type 0} → FiniteField V → (F → V) → Pair F → Table V
+  left_table K value both = table_of K value both.left
 
-  abbrev pub right_table : FiniteField V → (F → V) → List F → Pair → Table V
-  right_table K value xs both = table_of K value xs both.right
+  abbrev pub right_table : {V : Type 0} → FiniteField V → (F → V) → Pair F → Table V
+  right_table K value both = table_of K value both.right
 
 -- w has two different weights, and these are their codes
 pub record Unlike {V : Type 0} (K : FiniteField V) (S T : Table V) (w : Word) (left right : ℕ) : Type 0 where

@@ -1,21 +1,29 @@
-//! Pair rows: the rows of two tables after one word, side by side in work memory.
-ghost use Rattle.std.specs.Prelude.{◌≡◌, ◌+◌, ◌≤◌, [], ◌∷◌, ◌++◌, length, MatchOption};
-ghost use Rattle.series.specs.Tables.{pair, weight, Agree};
-ghost use Rattle.series.specs.Words.{Word};
-ghost use Rattle.rows.specs.Memory.{row_at, Frame, Apart};
-ghost use Rattle.walk.specs.Pairs.{PairLies, left_table, right_table, Unlike};
+//! Pair rows: the rows of two tables after one word, side by side.
+ghost use Rattle.std.specs.Prelude.{◌≡◌, ◌+◌, ◌≤◌, [], ◌∷◌, ◌++◌, length, MatchOption, ⊤};
 
 use field::Field;
-use rows::arithmetic::{dot, row_times_matrix};
-use rows::blocks::copy_block;
-use rows::layout::TableAt;
+use rows::row::{dot, row_times_matrix};
+use rows::table::TableRef;
+use std::alloc::AllocError;
 
-/// Two tables of a shelf.
-#[derive(Clone, Copy)]
-pub struct Pair {
-    pub left: TableAt,
-    pub right: TableAt,
+/// Two tables with one letter count.
+pub struct Pair<'a, F> {
+    pub left: TableRef<'a, F>,
+    pub right: TableRef<'a, F>,
+    ghost same_letters: { right.shape.letters ≡ left.shape.letters },
 }
+
+impl<'a, F> Clone for Pair<'a, F> {
+    ghost is_clone = { λ p r. r ≡ p };
+
+    ghost is_infallible = { λ _. ⊤ };
+
+    fn clone(&self) -> Result<Pair<'a, F>, AllocError> {
+        Ok(*self)
+    }
+}
+
+impl<'a, F> Copy for Pair<'a, F> {}
 
 /// The codes of two weights.
 #[derive(Clone, Copy)]
@@ -24,75 +32,62 @@ pub struct Weights {
     pub right: u64,
 }
 
-/// Writes to `to` the pair row of the empty word.
-pub fn start_row<F: Field>(work: &mut [F], to: usize, shelf: &[F], both: Pair)
-    requires tables_lie { PairLies (length shelf.now) both }
-    requires to_within { to + (both.left.states + both.right.states) ≤ length work.old }
-    ensures pair_row_of_empty_word { Agree (both.left.states + both.right.states) (row_at F.field F.value work.new to) (pair F.field (left_table F.field F.value shelf.now both) (right_table F.field F.value shelf.now both) []) }
-    ensures all_else_unchanged { Frame to (both.left.states + both.right.states) work.old work.new }
-{
-    copy_block(shelf, both.left.base, work, to, both.left.states);
-    copy_block(
-        shelf,
-        both.right.base,
-        work,
-        to + both.left.states,
-        both.right.states,
-    );
-}
+impl<'a, F: Field> Pair<'a, F> {
+    ghost use Rattle.series.specs.Tables.{pair, weight, Agree};
+    ghost use Rattle.series.specs.Words.{Word};
+    ghost use Rattle.rows.specs.Memory.{at};
+    ghost use Rattle.rows.specs.Seen.{RowOf};
+    ghost use Rattle.walk.specs.Pairs.{width, left_table, right_table, Unlike};
 
-/// Writes to `to`, from the pair row of a word at `from`, that of the word and one letter more.
-pub fn step_row<F: Field>(
-    work: &mut [F],
-    from: usize,
-    to: usize,
-    shelf: &[F],
-    both: Pair,
-    letter: usize,
-)
-    requires tables_lie { PairLies (length shelf.now) both }
-    requires from_within { from + (both.left.states + both.right.states) ≤ length work.old }
-    requires to_within { to + (both.left.states + both.right.states) ≤ length work.old }
-    requires apart { Apart from (both.left.states + both.right.states) to (both.left.states + both.right.states) }
-    requires letter_of_tables { (1 ≤ letter) × (letter ≤ both.left.letters) }
-    ensures pair_row_of_longer_word { (u : Word) → Agree (both.left.states + both.right.states) (row_at F.field F.value work.old from) (pair F.field (left_table F.field F.value shelf.now both) (right_table F.field F.value shelf.now both) u)
-        → Agree (both.left.states + both.right.states) (row_at F.field F.value work.new to) (pair F.field (left_table F.field F.value shelf.now both) (right_table F.field F.value shelf.now both) (u ++ letter ∷ [])) }
-    ensures all_else_unchanged { Frame to (both.left.states + both.right.states) work.old work.new }
-{
-    let n = both.left.states;
-    row_times_matrix(work, from, to, shelf, both.left.matrix(letter), n);
-    row_times_matrix(
-        work,
-        from + n,
-        to + n,
-        shelf,
-        both.right.matrix(letter),
-        both.right.states,
-    );
-}
-
-/// The codes of the two weights of the word whose pair row lies at `start`, if the weights are not the same.
-pub fn difference<F: Field>(work: &[F], start: usize, shelf: &[F], both: Pair) -> Option<Weights>
-    requires tables_lie { PairLies (length shelf.now) both }
-    requires row_within { start + (both.left.states + both.right.states) ≤ length work.now }
-    ensures compares_weights { (u : Word) → Agree (both.left.states + both.right.states) (row_at F.field F.value work.now start) (pair F.field (left_table F.field F.value shelf.now both) (right_table F.field F.value shelf.now both) u)
-        → MatchOption result (weight F.field (left_table F.field F.value shelf.now both) u ≡ weight F.field (right_table F.field F.value shelf.now both) u)
-        (λ w. Unlike F.field (left_table F.field F.value shelf.now both) (right_table F.field F.value shelf.now both) u w.left w.right) }
-{
-    let left = dot(work, start, shelf, both.left.end(), 1, both.left.states);
-    let right = dot(
-        work,
-        start + both.left.states,
-        shelf,
-        both.right.end(),
-        1,
-        both.right.states,
-    );
-    if left.same(right) {
-        return None;
+    /// How long a pair row is.
+    pub(crate) fn width(self) -> usize
+        ensures both_tables_states { result ≡ width self.entry }
+        ensures at_most_32 { result ≤ 32 }
+    {
+        self.left.states() + self.right.states()
     }
-    Some(Weights {
-        left: left.code(),
-        right: right.code(),
-    })
+
+    /// Writes to `to` the pair row of the empty word.
+    pub fn start_row(self, to: &mut [F])
+        requires as_long { length to.old ≡ width self }
+        ensures pair_row_of_empty_word { RowOf F.field F.value (width self.entry) (pair F.field (left_table F.field F.value self.entry) (right_table F.field F.value self.entry) []) to.new }
+    {
+        let (left, right) = to.split_at_mut(self.left.states());
+        left.copy_from_slice(self.left.start());
+        right.copy_from_slice(self.right.start());
+    }
+
+    /// Writes to `to`, from the pair row of a word, that of the word and one letter more.
+    pub fn step_row(self, row: &[F], letter: usize, to: &mut [F])
+        requires row_as_long { length row.now ≡ width self }
+        requires as_long { length to.old ≡ width self }
+        requires letter_of_tables { (1 ≤ letter) × (letter ≤ self.left.shape.letters) }
+        ensures pair_row_of_longer_word { (u : Word) → Agree (width self.entry) (at F.field F.value row.now) (pair F.field (left_table F.field F.value self.entry) (right_table F.field F.value self.entry) u)
+            → Agree (width self.entry) (at F.field F.value to.new) (pair F.field (left_table F.field F.value self.entry) (right_table F.field F.value self.entry) (u ++ letter ∷ [])) }
+    {
+        let n = self.left.states();
+        let (left, right) = row.split_at(n);
+        let (to_left, to_right) = to.split_at_mut(n);
+        row_times_matrix(left, self.left.matrix(letter), to_left);
+        row_times_matrix(right, self.right.matrix(letter), to_right);
+    }
+
+    /// The codes of the two weights of the word that has this pair row, if the weights are not the same.
+    pub fn difference(self, row: &[F]) -> Option<Weights>
+        requires row_as_long { length row.now ≡ width self }
+        ensures compares_weights { (u : Word) → Agree (width self.entry) (at F.field F.value row.now) (pair F.field (left_table F.field F.value self.entry) (right_table F.field F.value self.entry) u)
+            → MatchOption result (weight F.field (left_table F.field F.value self.entry) u ≡ weight F.field (right_table F.field F.value self.entry) u)
+            (λ w. Unlike F.field (left_table F.field F.value self.entry) (right_table F.field F.value self.entry) u w.left w.right) }
+    {
+        let (left, right) = row.split_at(self.left.states());
+        let left = dot(left, self.left.end(), 0, 1);
+        let right = dot(right, self.right.end(), 0, 1);
+        if left.same(right) {
+            return None;
+        }
+        Some(Weights {
+            left: left.code(),
+            right: right.code(),
+        })
+    }
 }

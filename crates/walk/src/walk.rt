@@ -1,153 +1,122 @@
 //! The walk through the tried words of two tables, in shortlex order.
 ghost use Rattle.std.specs.Prelude.{◌≡◌, ◌+◌, ◌<◌, ◌≤◌, [], length, MatchOption};
-ghost use Rattle.walk.specs.Pairs.{PairLies, left_table, right_table};
+ghost use Rattle.walk.specs.Pairs.{left_table, right_table};
 ghost use Rattle.walk.specs.Comparing.{FirstDifference};
-ghost use Rattle.walk.specs.Walking.{Noted, Ready, Passed, FoundDifference};
+ghost use Rattle.walk.specs.Walking.{kept, Ready, Passed, FoundDifference};
 
-use crate::pairs::{Pair, Weights, difference, start_row, step_row};
-use elimination::keep_row;
+use crate::links::{Link, Walk};
+use crate::pairs::{Pair, Weights};
+use elimination::echelon::keep_row;
 use field::Field;
 
-// Where the rows in echelon form begin; the pair rows of the kept words lie before them.
-const ECHELON: usize = 2048;
-
-/// The kept words so far: how many there are, the pivots of the rows in echelon form, and of each word but the empty one
-/// the number of the word that it is without its last letter, and that letter.
-#[derive(Drop)]
-pub struct Walk {
-    pub count: usize,
-    pub pivots: [usize; 32],
-    pub parents: [usize; 32],
-    pub letters: [u8; 32],
-}
-
-/// The word that weighs differently, by the number of the kept word that it is without its last letter, and that letter.
+/// The word that weighs differently, as one letter behind a kept word, and its weights.
 #[derive(Clone, Copy)]
 pub struct Found {
-    pub parent: usize,
-    pub letter: usize,
+    pub last: Link,
     pub weights: Weights,
 }
 
-impl Walk {
-    /// No word is kept yet.
-    pub fn new() -> Walk
-        ensures no_word { result.count ≡ 0 }
-    {
-        Walk {
-            count: 0,
-            pivots: [0; 32],
-            parents: [0; 32],
-            letters: [0; 32],
-        }
-    }
-
-    /// Notes one kept word more.
-    fn note(&mut self, pivot: usize, parent: usize, letter: usize)
-        requires room { (self.old.count < 32) × (letter ≤ 6) }
-        ensures noted { Noted self.old self.new pivot parent letter }
-    {
-        self.pivots[self.count] = pivot;
-        self.parents[self.count] = parent;
-        self.letters[self.count] = letter as u8;
-        self.count += 1;
-    }
-}
-
-// Tries the kept word i with one letter more: keeps it if its pair row is no combination of those of the kept words,
-// unless it weighs differently.
+// Tries a kept word with one letter more: keeps it if its pair row is no combination of those of the kept words, unless it
+// weighs differently.
 fn try_letter<F: Field>(
-    work: &mut [F],
+    rows: &mut [F],
+    echelon: &mut [F],
     walk: &mut Walk,
-    i: usize,
-    letter: usize,
-    shelf: &[F],
-    both: Pair,
+    pair: Pair<'_, F>,
+    link: Link,
 ) -> Option<Found>
-    requires tables_lie { PairLies (length shelf.now) both }
-    requires room { 8192 ≤ length work.old }
-    requires letter_of_tables { (1 ≤ letter) × (letter ≤ both.left.letters) }
-    requires ready { Ready F.field F.value (left_table F.field F.value shelf.now both) (right_table F.field F.value shelf.now both) i letter walk.old work.old }
+    requires room { (1056 ≤ length rows.old) × (1056 ≤ length echelon.old) }
+    requires letter_of_tables { (1 ≤ link.letter) × (link.letter ≤ pair.left.shape.letters) }
+    requires ready { Ready F.field F.value (left_table F.field F.value pair) (right_table F.field F.value pair) link.parent link.letter walk.old rows.old echelon.old }
     ensures next_letter_or_found { MatchOption result
-        (Ready F.field F.value (left_table F.field F.value shelf.now both) (right_table F.field F.value shelf.now both) i (letter + 1) walk.new work.new)
-        (λ f. FoundDifference F.field (left_table F.field F.value shelf.now both) (right_table F.field F.value shelf.now both) walk.new f) }
+        (Ready F.field F.value (left_table F.field F.value pair.entry) (right_table F.field F.value pair.entry) link.parent (link.letter + 1) walk.new rows.new echelon.new)
+        (λ f. FoundDifference F.field (left_table F.field F.value pair.entry) (right_table F.field F.value pair.entry) walk.new f) }
 {
-    let d = both.left.states + both.right.states;
-    let to = walk.count * d;
-    step_row(work, i * d, to, shelf, both, letter);
-    if let Some(weights) = difference(work, to, shelf, both) {
+    let d = pair.width();
+    let (before, rest) = rows.split_at_mut(walk.count() * d);
+    let row = &mut rest[..d];
+    let from = link.parent * d;
+    pair.step_row(&before[from..from + d], usize::from(link.letter), row);
+    if let Some(weights) = pair.difference(row) {
         return Some(Found {
-            parent: i,
-            letter,
+            last: link,
             weights,
         });
     }
-    if let Some(pivot) = keep_row(work, to, ECHELON, walk.count, d, &walk.pivots) {
-        walk.note(pivot, i, letter);
+    if let Some(pivot) = keep_row(row, echelon, &walk.pivots) {
+        walk.note(pivot, link);
     }
     None
 }
 
 // Tries the kept word i with each letter.
 fn try_letters<F: Field>(
-    work: &mut [F],
+    rows: &mut [F],
+    echelon: &mut [F],
     walk: &mut Walk,
+    pair: Pair<'_, F>,
     i: usize,
-    shelf: &[F],
-    both: Pair,
 ) -> Option<Found>
-    requires tables_lie { PairLies (length shelf.now) both }
-    requires room { 8192 ≤ length work.old }
-    requires ready { Ready F.field F.value (left_table F.field F.value shelf.now both) (right_table F.field F.value shelf.now both) i 1 walk.old work.old }
+    requires room { (1056 ≤ length rows.old) × (1056 ≤ length echelon.old) }
+    requires ready { Ready F.field F.value (left_table F.field F.value pair) (right_table F.field F.value pair) i 1 walk.old rows.old echelon.old }
     ensures past_letters_or_found { MatchOption result
-        (Ready F.field F.value (left_table F.field F.value shelf.now both) (right_table F.field F.value shelf.now both) i (both.left.letters + 1) walk.new work.new)
-        (λ f. FoundDifference F.field (left_table F.field F.value shelf.now both) (right_table F.field F.value shelf.now both) walk.new f) }
+        (Ready F.field F.value (left_table F.field F.value pair.entry) (right_table F.field F.value pair.entry) i (pair.entry.left.shape.letters + 1) walk.new rows.new echelon.new)
+        (λ f. FoundDifference F.field (left_table F.field F.value pair.entry) (right_table F.field F.value pair.entry) walk.new f) }
 {
-    for a in 1..both.left.letters + 1 {
-        if let Some(f) = try_letter(work, walk, i, a, shelf, both) {
+    for letter in 1..=pair.left.letters() {
+        let link = Link {
+            parent: i,
+            letter: letter as u8,
+        };
+        if let Some(f) = try_letter(rows, echelon, walk, pair, link) {
             return Some(f);
         }
     }
     None
 }
 
-/// Tries the empty word.
+/// Tries the empty word. The pair rows of the kept words are written to `rows`, and to `echelon` rows in echelon form that
+/// span the same.
 pub fn try_empty<F: Field>(
-    work: &mut [F],
+    rows: &mut [F],
+    echelon: &mut [F],
     walk: &mut Walk,
-    shelf: &[F],
-    both: Pair,
+    pair: Pair<'_, F>,
 ) -> Option<Weights>
-    requires tables_lie { PairLies (length shelf.now) both }
-    requires room { 8192 ≤ length work.old }
-    requires no_word { walk.old.count ≡ 0 }
+    requires room { (1056 ≤ length rows.old) × (1056 ≤ length echelon.old) }
+    requires no_word { kept walk.old ≡ 0 }
     ensures begun_or_found { MatchOption result
-        (Passed F.field F.value (left_table F.field F.value shelf.now both) (right_table F.field F.value shelf.now both) 0 walk.new work.new)
-        (λ w. FirstDifference F.field (left_table F.field F.value shelf.now both) (right_table F.field F.value shelf.now both) [] 1 w.left w.right) }
+        (Passed F.field F.value (left_table F.field F.value pair.entry) (right_table F.field F.value pair.entry) 0 walk.new rows.new echelon.new)
+        (λ w. FirstDifference F.field (left_table F.field F.value pair.entry) (right_table F.field F.value pair.entry) [] 1 w.left w.right) }
 {
-    let d = both.left.states + both.right.states;
-    start_row(work, 0, shelf, both);
-    if let Some(weights) = difference(work, 0, shelf, both) {
+    let row = &mut rows[..pair.width()];
+    pair.start_row(row);
+    if let Some(weights) = pair.difference(row) {
         return Some(weights);
     }
-    if let Some(pivot) = keep_row(work, 0, ECHELON, 0, d, &walk.pivots) {
-        walk.note(pivot, 0, 0);
+    if let Some(pivot) = keep_row(row, echelon, &walk.pivots) {
+        walk.note(pivot, Link::default());
     }
     None
 }
 
 /// Tries each kept word with each letter, those too that are kept on the way.
-pub fn try_rest<F: Field>(work: &mut [F], walk: &mut Walk, shelf: &[F], both: Pair) -> Option<Found>
-    requires tables_lie { PairLies (length shelf.now) both }
-    requires room { 8192 ≤ length work.old }
-    requires begun { Passed F.field F.value (left_table F.field F.value shelf.now both) (right_table F.field F.value shelf.now both) 0 walk.old work.old }
+pub fn try_rest<F: Field>(
+    rows: &mut [F],
+    echelon: &mut [F],
+    walk: &mut Walk,
+    pair: Pair<'_, F>,
+) -> Option<Found>
+    requires room { (1056 ≤ length rows.old) × (1056 ≤ length echelon.old) }
+    requires begun { Passed F.field F.value (left_table F.field F.value pair) (right_table F.field F.value pair) 0 walk.old rows.old echelon.old }
     ensures through_or_found { MatchOption result
-        (Passed F.field F.value (left_table F.field F.value shelf.now both) (right_table F.field F.value shelf.now both) walk.new.count walk.new work.new)
-        (λ f. FoundDifference F.field (left_table F.field F.value shelf.now both) (right_table F.field F.value shelf.now both) walk.new f) }
+        (Passed F.field F.value (left_table F.field F.value pair.entry) (right_table F.field F.value pair.entry) (kept walk.new) walk.new rows.new echelon.new)
+        (λ f. FoundDifference F.field (left_table F.field F.value pair.entry) (right_table F.field F.value pair.entry) walk.new f) }
 {
+    // the kept words become more while they are walked through, so that no range has their count
     let mut i = 0;
-    while i < walk.count {
-        if let Some(f) = try_letters(work, walk, i, shelf, both) {
+    while i < walk.count() {
+        if let Some(f) = try_letters(rows, echelon, walk, pair, i) {
             return Some(f);
         }
         i += 1;

@@ -1,62 +1,65 @@
-use Rattle.std.proofs.Common.{◌+◌, ◌<◌, ◌≤◌, [], ◌∷◌, ◌++◌, inl, arith}
-use Rattle.walk.specs.Pairs.{left_table, right_table}
+use Rattle.std.proofs.Common.{◌≡◌, ◌+◌, ◌*◌, ◌≤◌, ◌∷◌, [], ◌++◌, length, drop, ap, ◌∙◌, arith}
+use Rattle.series.specs.Tables.{pair, Agree}
+use Rattle.rows.specs.Memory.{at}
+use Rattle.walk.specs.Pairs.{width, left_table, right_table}
+use Rattle.walk.specs.Walking.{kept}
 use Rattle.walk.proofs.Differences.{longer_difference}
-use Rattle.walk.proofs.HeldWords.{held_first}
-use Rattle.elimination.proofs.Offsets.{rows_room, row_before}
 use Rattle.walk.proofs.WalkSteps.{ready_skip, ready_keep}
+use Rattle.walk.proofs.WorkRows.{row_long, row_before_at, others_stay, row_written}
 use Rattle.walk.proofs.walk.try_letter.Goals as goal
 
-pub step_row-requires : goal.step_row-requires
-step_row-requires g c =
-    let a = c.args in
-    let d = a.both.left.states + a.both.right.states in
-    let r = c.requires.ready in
-    let small : d ≤ 32 = omega arith in
-    let room = rows_room a.walk.now.count d r.few small in
-    let before = row_before a.i a.walk.now.count d r.inside in
-    record {
-      tables_lie = c.requires.tables_lie;
-      from_within = omega arith;
-      to_within = omega arith;
-      apart = inl (omega arith);
-      letter_of_tables = c.requires.letter_of_tables;
-    }
-
-pub difference-requires : goal.difference-requires
-difference-requires g c =
-    let a = c.args in
-    let d = a.both.left.states + a.both.right.states in
-    let small : d ≤ 32 = omega arith in
-    let room = rows_room a.walk.now.count d c.requires.ready.few small in
-    record { tables_lie = c.requires.tables_lie; row_within = omega arith }
-
-pub keep_row-requires : goal.keep_row-requires
-keep_row-requires g c =
+pub keep_row-requires-clause-echelon_form : goal.keep_row-requires-clause-echelon_form
+keep_row-requires-clause-echelon_form g c =
     let K = g.F.Field.field in let v = g.F.Field.value in
     let a = c.args in
-    let xs = a.shelf.now in
-    let w = a.walk.now in
-    let d = a.both.left.states + a.both.right.states in
+    let S = left_table K v a.pair in
+    let T = right_table K v a.pair in
+    let d = width a.pair in
+    let n = kept a.walk.now in
     let r = c.requires.ready in
+    let s = c.split_at_mut-before in
+    let wide : c.width-d.result ≡ d = c.width-d.ensures.both_tables_states in
+    let counted : c.count.result ≡ n = c.count.ensures.told in
     let small : d ≤ 32 = omega arith in
-    let room = rows_room w.count d r.few small in
-    let held = held_first K v (left_table K v xs a.both) (right_table K v xs a.both) small w.count r.words a.work.now c.step_row.new.work w.pivots r.few c.step_row.ensures.all_else_unchanged r.held in
-    record {
-      small = (small, r.few);
-      from_within = omega arith;
-      rows_within = omega arith;
-      echelon = held.basis.stairs;
-      ones_at_pivots = held.ones;
-    }
+    let row = c.step_row.new.to in
+    let long : length row ≡ d = c.step_row.auto.to ∙ row_long a.rows.now s.result.0.now s.result.1.now n d c.count.result c.width-d.result s.ensures.value s.ensures.front_len s.ensures.back_len counted wide r.few small (omega arith) in
+    rw (long, c.deref.ensures.0) r.held.basis.stairs
+
+pub keep_row-requires-clause-ones_at_pivots : goal.keep_row-requires-clause-ones_at_pivots
+keep_row-requires-clause-ones_at_pivots g c =
+    let K = g.F.Field.field in let v = g.F.Field.value in
+    let a = c.args in
+    let S = left_table K v a.pair in
+    let T = right_table K v a.pair in
+    let d = width a.pair in
+    let n = kept a.walk.now in
+    let r = c.requires.ready in
+    let s = c.split_at_mut-before in
+    let wide : c.width-d.result ≡ d = c.width-d.ensures.both_tables_states in
+    let counted : c.count.result ≡ n = c.count.ensures.told in
+    let small : d ≤ 32 = omega arith in
+    let row = c.step_row.new.to in
+    let long : length row ≡ d = c.step_row.auto.to ∙ row_long a.rows.now s.result.0.now s.result.1.now n d c.count.result c.width-d.result s.ensures.value s.ensures.front_len s.ensures.back_len counted wide r.few small (omega arith) in
+    rw (long, c.deref.ensures.0) r.held.ones
 
 pub returns-in-Some : goal.returns-in-Some
 returns-in-Some g c =
     let K = g.F.Field.field in let v = g.F.Field.value in
     let a = c.args in
-    let xs = a.shelf.now in
+    let S = left_table K v a.pair in
+    let T = right_table K v a.pair in
+    let d = width a.pair in
+    let n = kept a.walk.now in
     let r = c.requires.ready in
-    let x = r.words a.i ++ a.letter ∷ [] in
-    let e = c.step_row.ensures.pair_row_of_longer_word (r.words a.i) (r.held.rows a.i r.inside) in
+    let s = c.split_at_mut-before in
+    let wide : c.width-d.result ≡ d = c.width-d.ensures.both_tables_states in
+    let counted : c.count.result ≡ n = c.count.ensures.told in
+    let small : d ≤ 32 = omega arith in
+    let from = a.link.parent * c.width-d.result in
+    let before = row_before_at a.rows.now s.result.0.now s.result.1.now n d c.count.result c.width-d.result s.ensures.value s.ensures.front_len s.ensures.back_len counted wide r.few small (omega arith) K v
+    a.link.parent from (from + c.width-d.result) r.inside (ap (λ e. a.link.parent * e) wide) (omega arith) in
+    let x = r.words a.link.parent ++ a.link.letter ∷ [] in
+    let e : Agree d (at K v c.step_row.new.to) (pair K S T x) = rw (c.from.ensures) at c.step_row.ensures.pair_row_of_longer_word (r.words a.link.parent) (λ j l. before j l ∙ r.held.rows a.link.parent r.inside j l) in
     record {
       next_letter_or_found = record {
         words = r.words;
@@ -64,7 +67,7 @@ returns-in-Some g c =
         few = r.few;
         inside = r.inside;
         letter = c.requires.letter_of_tables.1;
-        difference = longer_difference K (left_table K v xs a.both) (right_table K v xs a.both) a.walk.now.count r.words a.i a.letter c.in-Some.weights.left c.in-Some.weights.right
+        difference = longer_difference K S T n r.words a.link.parent a.link.letter c.in-Some.weights.left c.in-Some.weights.right
             r.few r.inside c.requires.letter_of_tables.0 c.requires.letter_of_tables.1 r.scanned r.held.alike (c.in-Some.ensures.compares_weights x e);
       };
     }
@@ -73,31 +76,56 @@ pub returns-in_default-keep_row : goal.returns-in_default-keep_row
 returns-in_default-keep_row g c =
     let K = g.F.Field.field in let v = g.F.Field.value in
     let a = c.args in
-    let xs = a.shelf.now in
+    let S = left_table K v a.pair in
+    let T = right_table K v a.pair in
+    let d = width a.pair in
+    let n = kept a.walk.now in
     let r = c.requires.ready in
-    let small : a.both.left.states + a.both.right.states ≤ 32 = omega arith in
-    let e = c.step_row.ensures.pair_row_of_longer_word (r.words a.i) (r.held.rows a.i r.inside) in
+    let s = c.split_at_mut-before in
+    let wide : c.width-d.result ≡ d = c.width-d.ensures.both_tables_states in
+    let counted : c.count.result ≡ n = c.count.ensures.told in
+    let small : d ≤ 32 = omega arith in
+    let row = c.step_row.new.to in
+    let long : length row ≡ d = c.step_row.auto.to ∙ row_long a.rows.now s.result.0.now s.result.1.now n d c.count.result c.width-d.result s.ensures.value s.ensures.front_len s.ensures.back_len counted wide r.few small (omega arith) in
+    let from = a.link.parent * c.width-d.result in
+    let before = row_before_at a.rows.now s.result.0.now s.result.1.now n d c.count.result c.width-d.result s.ensures.value s.ensures.front_len s.ensures.back_len counted wide r.few small (omega arith) K v
+    a.link.parent from (from + c.width-d.result) r.inside (ap (λ e. a.link.parent * e) wide) (omega arith) in
+    let x = r.words a.link.parent ++ a.link.letter ∷ [] in
+    let e : Agree d (at K v c.step_row.new.to) (pair K S T x) = rw (c.from.ensures) at c.step_row.ensures.pair_row_of_longer_word (r.words a.link.parent) (λ j l. before j l ∙ r.held.rows a.link.parent r.inside j l) in
+    let behind = drop c.width-d.result s.result.1.now in
+    let stay = others_stay a.rows.now s.result.0.now s.result.1.now n d c.count.result c.width-d.result s.ensures.value s.ensures.front_len s.ensures.back_len counted wide r.few small (omega arith) K v row behind long in
     let left = c.in_default-keep_row.ensures in
     record {
-      next_letter_or_found = ready_skip K v (left_table K v xs a.both) (right_table K v xs a.both) small a.i a.letter a.walk.now a.work.now c.step_row.new.work c.keep_row.new.work r
-          c.step_row.ensures.all_else_unchanged e left.nothing_left_or_new_row left.all_else_unchanged;
+      next_letter_or_found = ready_skip K v S T a.link.parent a.link.letter a.walk.now row a.rows.now (s.result.0.now ++ (row ++ behind)) a.echelon.now c.keep_row.new.echelon r e stay
+          (rw (long, c.deref.ensures.0) at left.nothing_left_or_new_row) (rw (long, c.deref.ensures.0) at left.all_else_unchanged);
     }
 
 pub returns-in-Some-keep_row : goal.returns-in-Some-keep_row
 returns-in-Some-keep_row g c =
     let K = g.F.Field.field in let v = g.F.Field.value in
     let a = c.args in
-    let xs = a.shelf.now in
-    let w = a.walk.now in
+    let S = left_table K v a.pair in
+    let T = right_table K v a.pair in
+    let d = width a.pair in
+    let n = kept a.walk.now in
     let r = c.requires.ready in
-    let x = r.words a.i ++ a.letter ∷ [] in
-    let d = a.both.left.states + a.both.right.states in
+    let s = c.split_at_mut-before in
+    let wide : c.width-d.result ≡ d = c.width-d.ensures.both_tables_states in
+    let counted : c.count.result ≡ n = c.count.ensures.told in
     let small : d ≤ 32 = omega arith in
-    let e = c.step_row.ensures.pair_row_of_longer_word (r.words a.i) (r.held.rows a.i r.inside) in
+    let row = c.step_row.new.to in
+    let long : length row ≡ d = c.step_row.auto.to ∙ row_long a.rows.now s.result.0.now s.result.1.now n d c.count.result c.width-d.result s.ensures.value s.ensures.front_len s.ensures.back_len counted wide r.few small (omega arith) in
+    let from = a.link.parent * c.width-d.result in
+    let before = row_before_at a.rows.now s.result.0.now s.result.1.now n d c.count.result c.width-d.result s.ensures.value s.ensures.front_len s.ensures.back_len counted wide r.few small (omega arith) K v
+    a.link.parent from (from + c.width-d.result) r.inside (ap (λ e. a.link.parent * e) wide) (omega arith) in
+    let x = r.words a.link.parent ++ a.link.letter ∷ [] in
+    let e : Agree d (at K v c.step_row.new.to) (pair K S T x) = rw (c.from.ensures) at c.step_row.ensures.pair_row_of_longer_word (r.words a.link.parent) (λ j l. before j l ∙ r.held.rows a.link.parent r.inside j l) in
+    let behind = drop c.width-d.result s.result.1.now in
+    let stay = others_stay a.rows.now s.result.0.now s.result.1.now n d c.count.result c.width-d.result s.ensures.value s.ensures.front_len s.ensures.back_len counted wide r.few small (omega arith) K v row behind long in
+    let written = row_written a.rows.now s.result.0.now s.result.1.now n d c.count.result c.width-d.result s.ensures.value s.ensures.front_len s.ensures.back_len counted wide r.few small (omega arith) K v row behind long in
     let new = c.in-Some-keep_row.ensures in
-    let room : w.count < d = new.nothing_left_or_new_row.room in
     record {
-      next_letter_or_found = ready_keep K v (left_table K v xs a.both) (right_table K v xs a.both) small a.i a.letter c.in-Some-keep_row.pivot w c.note.new.self a.work.now c.step_row.new.work c.keep_row.new.work r
-          c.requires.letter_of_tables.0 c.requires.letter_of_tables.1
-          c.step_row.ensures.all_else_unchanged e (c.in_default.ensures.compares_weights x e) new.nothing_left_or_new_row new.all_else_unchanged c.note.ensures.noted;
+      next_letter_or_found = ready_keep K v S T a.link c.in-Some-keep_row.pivot a.walk.now c.note.new.self row a.rows.now (s.result.0.now ++ (row ++ behind)) a.echelon.now c.keep_row.new.echelon r
+          c.requires.letter_of_tables.0 c.requires.letter_of_tables.1 e stay written (c.in_default.ensures.compares_weights x e)
+          (rw (long, c.deref.ensures.0) at new.nothing_left_or_new_row) (rw (long, c.deref.ensures.0) at new.all_else_unchanged) c.note.ensures.noted;
     }
