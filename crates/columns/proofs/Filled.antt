@@ -1,5 +1,5 @@
 -- Bytes that are filled from the front: numbers, and a line of them. Assumes nothing.
-use Rattle.std.proofs.Common.{◌≡◌, ℕ, zero, suc, ◌+◌, ◌-◌, ◌^◌, ◌<◌, ◌≤◌, List, [], ◌∷◌, ◌++◌, length, get_or, take, drop, set, sym, refl, ap, ◌∙◌, subst, arith}
+use Rattle.std.proofs.Common.{◌≡◌, ◌-◌, ◌*◌, ℕ, zero, suc, ◌+◌, ◌^◌, ◌<◌, ◌≤◌, List, [], ◌∷◌, ◌++◌, length, get_or, take, drop, set, sym, refl, ap, ◌∙◌, subst, arith}
 use borrow.Rule.Slice.PartMut.{put_mid}
 use Rattle.std.specs.Iterator.{Yields}
 use Rattle.std.specs.declared.option.Option.{Option}
@@ -9,7 +9,7 @@ use Rattle.std.proofs.lemmas.Slice.{take-put_mid}
 use Rattle.std.proofs.lemmas.Iterator.{YieldsList}
 use Rattle.std.proofs.lemmas.Iterator.Consumers.{YieldsList-turn, YieldsList-end}
 use Rattle.columns.specs.Numbers.{number}
-use Rattle.columns.specs.Lines.{numbers, TenDigits, Gives}
+use Rattle.columns.specs.Lines.{numbers, line, TenDigits, Gives}
 use Rattle.columns.proofs.Begun.{length_number}
 use Rattle.columns.proofs.Lengths.{numbers_more}
 
@@ -60,3 +60,10 @@ module _ {S : Type 0} (steps : S → Option ℕ → S → Type 0) (s p : S) (beg
 
   pub all_given : r ≡ None → xs ≡ all
   all_given e = sym (map-id xs) ∙ (YieldsList-end given xs t yields r u e step).0
+
+-- what a line's writer asks of an iterator that gives the list, and what it leaves
+pub fill_line : {S : Type 0} {steps : S → Option ℕ → S → Type 0} {s : S} {vs : List ℕ} (n : ℕ) → YieldsList steps (λ v. v) s vs → TenDigits vs → n ≡ 2 + 11 * length vs → (us : List ℕ) × Gives steps s us × TenDigits us × (n ≡ 2 + 11 * length us)
+fill_line {vs = vs} n road small long = (vs, road.runs, small, long)
+
+pub filled_line : {S : Type 0} {steps : S → Option ℕ → S → Type 0} {s : S} {vs out : List ℕ} {first : ℕ} → ((us : List ℕ) → Gives steps s us → out ≡ line first us) → YieldsList steps (λ v. v) s vs → out ≡ line first vs
+filled_line {vs = vs} written road = written vs road.runs

@@ -1,54 +1,34 @@
 //! The text of a table, written into lent bytes.
 #![tactic(auto)]
 
-ghost use Rattle.std.specs.Prelude.{◌≡◌, ◌+◌, ◌-◌, ◌*◌, ◌^◌, ◌<◌, ◌≤◌, [], ◌∷◌, length, take, drop};
+ghost use Rattle.std.specs.Prelude.{◌≡◌, ◌+◌, ◌-◌, ◌*◌, ◌<◌, ◌≤◌, [], ◌∷◌, ◌++◌, length, take, drop};
 ghost use Rattle.rows.specs.Layout.{table_size, table_at};
-ghost use Rattle.columns.specs.Lines.{letter as letter_of, numbers, line as line_of};
+ghost use Rattle.columns.specs.Lines.{letter as letter_of, line as line_of, TenDigits};
 ghost use Rattle.text.specs.Texts.{Limits, text_size, text_of, body_of};
 ghost use Rattle.text.specs.Rows.{codes_of, row_lines};
 
-use columns::column::put_number;
-use columns::line::{Kind, letter_of};
+use columns::line::{Kind, put_line};
 use field::Field;
 use text::shape::Shape;
 
-/// Writes the codes of the elements, one after another.
-fn put_codes<F: Field>(out: &mut [u8], elements: &[F])
-    requires few { length elements.now ≤ 16 }
-    requires room { length out.old ≡ 11 * length elements.now }
-    ensures written { out.new ≡ numbers (codes_of F.field F.value elements.now) }
+/// Writes a line of the numbers `heads` and then of the elements' codes.
+fn put_codes_line<F: Field>(out: &mut [u8], kind: Kind, heads: &[u64], elements: &[F])
+    requires ten_digits { TenDigits heads.now }
+    requires room { length out.old ≡ 2 + 11 * (length heads.now + length elements.now) }
+    ensures written { out.new ≡ line_of (letter_of kind) (heads.now ++ codes_of F.field F.value elements.now) }
 {
-    for (i, x) in elements.iter().enumerate() {
-        put_number(&mut out[11 * i..11 * i + 11], x.code());
-    }
+    let codes = elements.iter().map(|x| x.code());
+    put_line(out, u8::from(kind), heads.iter().copied().chain(codes));
 }
 
-/// Writes a line of the elements' codes.
-fn put_line<F: Field>(out: &mut [u8], kind: Kind, elements: &[F])
-    requires few { length elements.now ≤ 16 }
-    requires room { length out.old ≡ 2 + 11 * length elements.now }
-    ensures written { out.new ≡ line_of (letter_of kind) (codes_of F.field F.value elements.now) }
+/// Writes the first line: the table's sizes and the field's q.
+fn put_table_line<F: Field>(out: &mut [u8], shape: Shape)
+    requires limits { Limits shape.states shape.letters }
+    requires room { length out.old ≡ 35 }
+    ensures written { out.new ≡ line_of (letter_of Kind.Table) (shape.states ∷ shape.letters ∷ F.field.q ∷ []) }
 {
-    let end = 1 + 11 * elements.len();
-    out[0] = letter_of(kind);
-    put_codes(&mut out[1..end], elements);
-    out[end] = b'\n';
-}
-
-/// Writes the line of a matrix row: its letter, its number and the elements' codes.
-fn put_matrix_line<F: Field>(out: &mut [u8], letter: u64, row: u64, elements: &[F])
-    requires few { length elements.now ≤ 16 }
-    requires room { length out.old ≡ 24 + 11 * length elements.now }
-    requires letter_small { letter < 10 ^ 10 }
-    requires row_small { row < 10 ^ 10 }
-    ensures written { out.new ≡ line_of (letter_of Kind.Matrix) (letter ∷ row ∷ codes_of F.field F.value elements.now) }
-{
-    let end = 23 + 11 * elements.len();
-    out[0] = letter_of(Kind::Matrix);
-    put_number(&mut out[1..12], letter);
-    put_number(&mut out[12..23], row);
-    put_codes(&mut out[23..end], elements);
-    out[end] = b'\n';
+    let heads = [shape.states as u64, shape.letters as u64, F::order()];
+    put_codes_line::<F>(out, Kind::Table, &heads, &[]);
 }
 
 /// Writes the lines of `count` matrix rows of `n` elements.
@@ -61,29 +41,16 @@ fn put_matrices<F: Field>(out: &mut [u8], n: usize, count: usize, elements: &[F]
     ensures written { out.new ≡ row_lines n (codes_of F.field F.value elements.now) count }
 {
     let width = 24 + 11 * n;
+    // an index, since after `chunks_exact_mut` nothing is known of the bytes
     for j in 0..count {
-        let letter = (j / n + 1) as u64;
-        let row = (j % n + 1) as u64;
-        put_matrix_line(
+        let heads = [(j / n + 1) as u64, (j % n + 1) as u64];
+        put_codes_line(
             &mut out[j * width..j * width + width],
-            letter,
-            row,
+            Kind::Matrix,
+            &heads,
             &elements[j * n..j * n + n],
         );
     }
-}
-
-/// Writes the first line: the table's sizes and the field's q.
-fn put_table_line<F: Field>(out: &mut [u8], shape: Shape)
-    requires limits { Limits shape.states shape.letters }
-    requires room { length out.old ≡ 35 }
-    ensures written { out.new ≡ line_of (letter_of Kind.Table) (shape.states ∷ shape.letters ∷ F.field.q ∷ []) }
-{
-    out[0] = letter_of(Kind::Table);
-    put_number(&mut out[1..12], shape.states as u64);
-    put_number(&mut out[12..23], shape.letters as u64);
-    put_number(&mut out[23..34], F::order());
-    out[34] = b'\n';
 }
 
 /// Writes the lines after the first.
@@ -95,21 +62,15 @@ fn put_body<F: Field>(out: &mut [u8], shape: Shape, elements: &[F])
 {
     let n = shape.states;
     let count = shape.letters * n;
-    let cells = count * n;
-    let start = 2 + 11 * n;
-    let rows = start + count * (24 + 11 * n);
-    put_line(&mut out[0..start], Kind::Start, &elements[0..n]);
-    put_matrices(&mut out[start..rows], n, count, &elements[n..n + cells]);
-    put_line(
-        &mut out[rows..rows + start],
-        Kind::End,
-        &elements[n + cells..n + cells + n],
-    );
-    put_line(
-        &mut out[rows + start..rows + start + 2],
-        Kind::Close,
-        &elements[0..0],
-    );
+    let (start, rest) = elements.split_at(n);
+    let (rows, end) = rest.split_at(count * n);
+    let (start_line, out) = out.split_at_mut(2 + 11 * n);
+    let (row_lines, out) = out.split_at_mut(count * (24 + 11 * n));
+    let (end_line, close_line) = out.split_at_mut(2 + 11 * n);
+    put_codes_line(start_line, Kind::Start, &[], start);
+    put_matrices(row_lines, n, count, rows);
+    put_codes_line(end_line, Kind::End, &[], end);
+    put_codes_line::<F>(close_line, Kind::Close, &[], &[]);
 }
 
 /// How many bytes the text of a table of this shape has.
@@ -134,7 +95,9 @@ pub fn write_table<F: Field>(shelf: &[F], base: usize, shape: Shape, output: &mu
     let n = shape.states;
     let block = n + shape.letters * (n * n) + n;
     let size = text_size(shape);
-    put_table_line::<F>(&mut output[0..35], shape);
-    put_body(&mut output[35..size], shape, &shelf[base..base + block]);
+    let (text, _) = output.split_at_mut(size);
+    let (table_line, lines) = text.split_at_mut(35);
+    put_table_line::<F>(table_line, shape);
+    put_body(lines, shape, &shelf[base..base + block]);
     size
 }
