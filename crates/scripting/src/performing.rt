@@ -39,7 +39,7 @@ pub struct Given {
     pub output: usize,
 }
 
-/// Makes one call on a shelf, with as much work memory and output as it is given.
+/// Makes one call on a shelf, with as much work memory and output as it is given. All memory is lent, as to the shelf.
 pub fn make<F: Field>(
     directory: &mut Directory,
     shelf: &mut [F],
