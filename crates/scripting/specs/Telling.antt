@@ -1,5 +1,5 @@
 -- Mistakes in words. Assumes nothing.
-use Rattle.std.specs.Prelude.{ℕ, List, ◌++◌, codes}
+use Rattle.std.specs.Prelude.{ℕ, List, [], ◌∷◌, ◌++◌, codes}
 use Rattle.std.specs.Fmt.{decimal}
 use Rattle.scripting.specs.declared.mistake.Mistake.{Mistake}
 use Rattle.scripting.specs.declared.mistake.Reason.{Reason}
@@ -21,3 +21,7 @@ reason_text NoMemory = codes "there is no memory for it"
 -- the line, and what is wrong with it
 abbrev pub mistake_text : Mistake → List ℕ
 mistake_text m = codes "line " ++ decimal m.line ++ codes ": " ++ reason_text m.reason
+
+-- the line that tells it
+abbrev pub told_line : Mistake → List ℕ
+told_line m = codes "script: " ++ mistake_text m ++ 10 ∷ []
