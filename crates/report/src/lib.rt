@@ -19,6 +19,7 @@ use theorems::{one_line, q_where_alike};
 
 /// Reports on two texts over a field: writes its line to the front of the output, and answers how many bytes it has.
 /// An output below 387 bytes, which not every line fits into, gives 0 before anything is read, and is left as it is.
+/// The memory is its own; its requirement is on the size of an element alone, and is computed at each field.
 pub fn report_over<F: Field>(first: &[u8], second: &[u8], out: &mut [u8]) -> usize
     requires elements_fit { 12544 * type_size F.row < 2 ^ 63 }
     ensures reports { Reports F.field first.now second.now out.old result out.new }

@@ -3,7 +3,7 @@
 //! letter that the table lacks.
 #![tactic(auto)]
 
-ghost use Rattle.std.specs.Prelude.{◌≡◌, ◌+◌, ◌≤◌, map, length, IfOk, MatchResult};
+ghost use Rattle.std.specs.Prelude.{◌≡◌, ◌+◌, ◌-◌, ◌≤◌, map, length, slice_get, IfOk, MatchOption, MatchResult};
 ghost use Rattle.series.specs.Tables.{weight};
 ghost use Rattle.rows.specs.Tables.{Lies, table_of};
 ghost use Rattle.rows.specs.Weighing.{FirstOutside};
@@ -15,26 +15,22 @@ use residue::Fermat;
 use rows::layout::TableAt;
 use rows::weighing::weigh;
 use std::alloc::{AllocError, Global};
-use std::fs;
 use std::process::ExitCode;
+use std::{fmt, fs};
 use text::table::read_table;
 
 // The letter of a byte: a digit's number, and 0, which is no letter of any table, for any other byte.
 fn letter_of(b: u8) -> u8
     ensures by_digit { result ≡ letter b }
 {
-    if b >= b'0' && b <= b'9' { b - b'0' } else { 0 }
+    if b.is_ascii_digit() { b - b'0' } else { 0 }
 }
 
 // The letters of a line.
 fn letters(heap: Global, line: &[u8]) -> Result<Vec<u8>, AllocError>
     ensures letter_by_letter { IfOk result (λ v. v.items ≡ map letter line.now) }
 {
-    let mut word = Vec::new(heap);
-    for b in line {
-        word.push(letter_of(*b))?;
-    }
-    Ok(word)
+    line.iter().map(|b| letter_of(*b)).collect(heap)
 }
 
 // The code of a word's weight, or the position of its first letter that the table lacks.
@@ -48,56 +44,45 @@ fn weight_code<F: Field>(
     requires two_rows_fit { table.states + table.states ≤ length rows.old }
     ensures code_or_first_letter_outside { MatchResult result (λ c. c ≡ F.field.code (weight F.field (table_of F.field F.value memory.now table) word.now)) (λ p. FirstOutside table.letters word.now p) }
 {
-    match weigh(memory, table, word, rows) {
-        Ok(x) => Ok(x.code()),
-        Err(position) => Err(position),
-    }
+    weigh(memory, table, word, rows).map(F::code)
 }
 
 // What stands at a position, from 1, of a line.
-fn shown(line: &[u8], position: usize) -> char {
-    match line.get(position.wrapping_sub(1)) {
-        Some(b) => char::from(*b),
-        None => '?',
+fn shown(line: &[u8], position: usize) -> char
+    requires from_1 { 1 ≤ position }
+    ensures at_position { MatchOption (slice_get line.now (position - 1)) (result ≡ 63) (λ b. result ≡ b) }
+{
+    line.get(position - 1).map_or('?', |b| char::from(*b))
+}
+
+// Where and why a table is refused, in this program's own words, which are not those of the fault.
+#[derive(Clone, Copy)]
+struct Refused(LoadFault);
+
+impl fmt::Display for Refused {
+    fn fmt<W: fmt::Write>(&self, f: &mut fmt::Formatter<W>) -> fmt::Result {
+        let (line, column) = self.0.position();
+        let reason = match self.0 {
+            LoadFault::Line(LineFault::Column(_)) => "this byte cannot stand in its column",
+            LoadFault::Line(LineFault::Ends(_)) => "the text ends where a byte is due",
+            LoadFault::Line(LineFault::Unexpected(_)) => "another kind of line is due",
+            LoadFault::Line(LineFault::Unended(_)) => "the line should end here",
+            LoadFault::Value(_) => "this number is not the one due, or not within its limits",
+            LoadFault::Beyond(_) => "nothing may follow the last line",
+        };
+        write!(f, "line {line}, column {column}: {reason}")
     }
 }
 
-// Why a text is refused, for a person.
-fn reason(fault: &LoadFault) -> &'static str {
-    match fault {
-        LoadFault::Line(LineFault::Column(_)) => "this byte cannot stand in its column",
-        LoadFault::Line(LineFault::Ends(_)) => "the text ends where a byte is due",
-        LoadFault::Line(LineFault::Unexpected(_)) => "another kind of line is due",
-        LoadFault::Line(LineFault::Unended(_)) => "the line should end here",
-        LoadFault::Value(_) => "this number is not the one due, or not within its limits",
-        LoadFault::Beyond(_) => "nothing may follow the last line",
-    }
-}
-
-// Tells where and why the table is refused.
-fn refuse(rt: &HostRuntime, fault: &LoadFault) -> anyhow::Result<ExitCode> {
-    let (line, column) = fault.position();
-    eprintln!(rt; "table: line {line}, column {column}: {}", reason(fault))?;
-    Ok(ExitCode::FAILURE)
-}
-
-fn main(rt: HostRuntime) -> anyhow::Result<ExitCode> {
-    let text = fs::read(&rt, "table")?;
-    let mut memory = [Fermat::zero(); 1568];
-    let shape = match read_table(text.as_slice(), &mut memory) {
-        Ok(shape) => shape,
-        Err(fault) => return refuse(&rt, &fault),
-    };
-    let table = TableAt {
-        base: 0,
-        states: shape.states,
-        letters: shape.letters,
-    };
+// Weighs the words of standard input.
+fn weigh_words(rt: &HostRuntime, memory: &[Fermat], table: TableAt) -> anyhow::Result<()>
+    requires table_lies { Lies (length memory.now) table }
+{
     for line in rt.lines(rt.alloc()) {
         let line = line?;
         let word = letters(rt.alloc(), line.as_bytes())?;
         let mut rows = [Fermat::zero(); 32];
-        match weight_code(&memory, table, word.as_slice(), &mut rows) {
+        match weight_code(memory, table, word.as_slice(), &mut rows) {
             Ok(code) => println!(rt; "{line}: {code}")?,
             Err(position) => {
                 let letter = shown(line.as_bytes(), position);
@@ -105,5 +90,25 @@ fn main(rt: HostRuntime) -> anyhow::Result<ExitCode> {
             }
         }
     }
-    Ok(ExitCode::SUCCESS)
+    Ok(())
+}
+
+fn main(rt: HostRuntime) -> anyhow::Result<ExitCode> {
+    let text = fs::read(&rt, "table")?;
+    let mut memory = [Fermat::zero(); 1568];
+    match read_table(text.as_slice(), &mut memory) {
+        Ok(shape) => {
+            let table = TableAt {
+                base: 0,
+                states: shape.states,
+                letters: shape.letters,
+            };
+            weigh_words(&rt, &memory, table)?;
+            Ok(ExitCode::SUCCESS)
+        }
+        Err(fault) => {
+            eprintln!(rt; "table: {}", Refused(fault))?;
+            Ok(ExitCode::FAILURE)
+        }
+    }
 }
