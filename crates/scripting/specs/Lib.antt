@@ -6,3 +6,4 @@ pub mod Arguments
 pub mod Mistakes
 pub mod Making
 pub mod Judging
+pub mod Telling

@@ -1,5 +1,5 @@
 -- The mistakes of a script. Assumes nothing.
-use Rattle.std.specs.Prelude.{ℕ, List, [], ◌∷◌, ◌++◌, Some, None, string_bytes, Option, Vec}
+use Rattle.std.specs.Prelude.{ℕ, List, [], ◌∷◌, flat_map, Some, None, string_bytes, Option, Vec}
 use Rattle.scripting.specs.declared.mistake.Mistake.{Mistake}
 use Rattle.scripting.specs.declared.mistake.Reason.TheVariants.{FileUnreadable}
 use Rattle.scripting.specs.declared.reading.Line.{Line}
@@ -17,8 +17,7 @@ wrong n (Mistaken reason) = record { line = n; reason = reason } ∷ []
 
 -- the mistakes of the lines, in their order
 abbrev pub mistakes_of : List Line → List Mistake
-mistakes_of [] = []
-mistakes_of (l ∷ ls) = wrong l.number l.entry ++ mistakes_of ls
+mistakes_of ls = flat_map (λ (l : Line). wrong l.number l.entry) ls
 
 -- the name of the file that a line still wants
 abbrev pub file_in : Entry → Option (List ℕ)

@@ -1,5 +1,6 @@
 //! What is wrong with a line of a script.
-ghost use Rattle.std.specs.Prelude.{◌≡◌};
+ghost use Rattle.std.specs.Prelude.{◌≡◌, Some};
+ghost use Rattle.scripting.specs.Telling.{mistake_text, reason_text};
 ghost use Rattle.scripting.specs.declared.mistake.Reason.TheVariants.{NumberTooLarge, FieldNotOffered, NoMemory};
 
 use command::offered::NotOffered;
@@ -55,6 +56,8 @@ impl<T: Drop> From<AllocFailed<T>> for Reason {
 }
 
 impl fmt::Display for Reason {
+    ghost output = { λ reason. Some (reason_text reason) };
+
     fn fmt<W: fmt::Write>(&self, f: &mut fmt::Formatter<W>) -> fmt::Result {
         f.write_str(match self {
             Reason::NoCall => "the first word is no call",
@@ -79,6 +82,8 @@ pub struct Mistake {
 }
 
 impl fmt::Display for Mistake {
+    ghost output = { λ mistake. Some (mistake_text mistake) };
+
     fn fmt<W: fmt::Write>(&self, f: &mut fmt::Formatter<W>) -> fmt::Result {
         write!(f, "line {}: {}", self.line, self.reason)
     }

@@ -52,7 +52,7 @@ fn end(line: &[u8]) -> Result<(), Reason>
     }
 }
 
-// The N numbers that the line is, and no more.
+// The N numbers that the line is, and no more. A usize has 64 bits: each cast to and from it loses nothing, by its proof.
 fn numbers<const N: usize>(line: &[u8]) -> Result<[usize; N], Reason>
     ensures read { IfOk result (λ ns. Numbers line.now ns) }
 {

@@ -11,22 +11,21 @@ pub struct Shown<T>(pub T);
 /// What compare found.
 impl fmt::Display for Shown<Verdict> {
     fn fmt<W: fmt::Write>(&self, f: &mut fmt::Formatter<W>) -> fmt::Result {
-        let verdict = &self.0;
-        let tried = verdict.tried;
-        if verdict.kind == Kind::Alike {
-            let kept = verdict.kept;
-            return write!(f, "alike, {tried} tried, {kept} kept");
+        let verdict = self.0;
+        match verdict.kind {
+            Kind::Alike => write!(f, "alike, {} tried, {} kept", verdict.tried, verdict.kept),
+            Kind::Differs => {
+                write!(f, "differs at")?;
+                if verdict.length == 0 {
+                    write!(f, " the empty word")?;
+                }
+                for a in verdict.letters.iter().take(verdict.length) {
+                    write!(f, " {a}")?;
+                }
+                write!(f, ", weighs {} and {}", verdict.first, verdict.second)?;
+                write!(f, ", {} tried", verdict.tried)
+            }
         }
-        write!(f, "differs at")?;
-        if verdict.length == 0 {
-            write!(f, " the empty word")?;
-        }
-        for a in verdict.letters.iter().take(verdict.length) {
-            write!(f, " {a}")?;
-        }
-        let first = verdict.first;
-        let second = verdict.second;
-        write!(f, ", weighs {first} and {second}, {tried} tried")
     }
 }
 

@@ -1,11 +1,12 @@
 //! Performs a script, a request at a time, since what write wrote is shown before the next call.
-ghost use Rattle.std.specs.Prelude.{◌≡◌, ◌*◌, ◌^◌, ◌<◌, length};
+ghost use Rattle.std.specs.Prelude.{◌≡◌, ◌*◌, ◌^◌, ◌<◌, flat_map, length, IfOk};
 ghost use Rattle.std.specs.Mem.{type_size};
 ghost use Rattle.book.specs.Verdicts.{unwritten};
 ghost use Rattle.shelf.specs.Views.{state, shelf_of};
 ghost use Rattle.scripting.specs.Making.{Makes};
 ghost use Rattle.scripting.specs.Mistakes.{mistakes_of};
 ghost use Rattle.scripting.specs.Judging.{Judged};
+ghost use Rattle.scripting.specs.Telling.{told_line};
 ghost use Rattle.scripting.specs.declared.performing.Failure.TheVariants.{NoMemory};
 
 use crate::mistake::Mistake;
@@ -39,7 +40,7 @@ pub struct Given {
     pub output: usize,
 }
 
-/// Makes one call on a shelf, with as much work memory and output as it is given.
+/// Makes one call on a shelf, with as much work memory and output as it is given. All memory is lent, as to the shelf.
 pub fn make<F: Field>(
     directory: &mut Directory,
     shelf: &mut [F],
@@ -164,7 +165,9 @@ pub fn perform(heap: Global, script: &Script) -> Result<Vec<u8>, AllocError> {
 }
 
 /// The lines that tell mistakes.
-pub fn tell(heap: Global, mistakes: &[Mistake]) -> Result<Vec<u8>, AllocError> {
+pub fn tell(heap: Global, mistakes: &[Mistake]) -> Result<Vec<u8>, AllocError>
+    ensures told { IfOk result (λ v. v.items ≡ flat_map told_line mistakes.now) }
+{
     let mut told = Vec::new(heap);
     for mistake in mistakes {
         let line = format!(in heap; "script: {mistake}\n")?;

@@ -1,7 +1,7 @@
 //! A whole script, read line by line.
-ghost use Rattle.std.specs.Prelude.{◌≡◌, ◌<◌, ◌≤◌, length, IfOk};
+ghost use Rattle.std.specs.Prelude.{◌≡◌, ◌<◌, ◌≤◌, length, take, IfOk};
 ghost use Rattle.std.specs.Option.{option_map};
-ghost use Rattle.scripting.specs.Splitting.{Later, Block};
+ghost use Rattle.scripting.specs.Splitting.{First, Later, Block};
 ghost use Rattle.scripting.specs.Mistakes.{mistakes_of, file_in, given_text};
 
 use crate::mistake::{Mistake, Reason};
@@ -47,14 +47,15 @@ fn load<'a>(heap: Global, texts: &Texts<'a>, name: &'a [u8], to: usize) -> Resul
     Ok(Entry::File { name, to })
 }
 
-// What follows the first newline, if there is one.
-fn after_newline(bytes: &[u8]) -> &[u8]
-    ensures later { Later bytes.now result.now }
-    ensures within { length result.now ≤ length bytes.now }
-    ensures shorter { 0 < length bytes.now → length result.now < length bytes.now }
+// The first line, and what follows its newline.
+fn split_line(bytes: &[u8]) -> (&[u8], &[u8])
+    ensures first { First 10 bytes.now (length result.0.now) }
+    ensures line { result.0.now ≡ take (length result.0.now) bytes.now }
+    ensures later { Later bytes.now result.1.now }
+    ensures shorter { 0 < length bytes.now → length result.1.now < length bytes.now }
 {
-    let count = before(bytes, b'\n');
-    bytes.get(count + 1..).unwrap_or(&[])
+    let (line, rest) = bytes.split_at(before(bytes, b'\n'));
+    (line, rest.get(1..).unwrap_or(&[]))
 }
 
 // So many bytes that a newline or the end follows.
@@ -68,21 +69,14 @@ fn block(bytes: &[u8], size: usize) -> Result<&[u8], Reason>
     }
 }
 
-// What follows a text of this size, and the rest of the line that it ends in.
-fn after_text(bytes: &[u8], size: usize) -> &[u8]
-    ensures within { length result.now ≤ length bytes.now }
-{
-    after_newline(&bytes[size.min(bytes.len())..])
-}
-
 // The entry of what a line says, if it is one; a text is kept for later lines.
 fn entry_of<'a>(
     heap: Global,
     texts: &mut Texts<'a>,
-    line: &'a [u8],
+    said: Result<Option<Said<'a>>, Reason>,
     rest: &'a [u8],
 ) -> Result<Option<Entry>, Reason> {
-    match read_line(heap, line)? {
+    match said? {
         None => Ok(None),
         Some(Said::Text { name, size }) => {
             texts.insert(name, block(rest, size)?)?;
@@ -93,13 +87,16 @@ fn entry_of<'a>(
     }
 }
 
-// What follows a line, and the text where it gives one.
-fn after_line<'a>(heap: Global, line: &[u8], rest: &'a [u8]) -> &'a [u8]
-    ensures within { length result.now ≤ length rest.now }
+// How many of the bytes that follow a line belong to it: those of a text, with the rest of the line that it ends in.
+fn belonging(said: &Result<Option<Said<'_>>, Reason>, rest: &[u8]) -> usize
+    ensures within { result ≤ length rest.now }
 {
-    match read_line(heap, line) {
-        Ok(Some(Said::Text { size, .. })) => after_text(rest, size),
-        _ => rest,
+    match said {
+        Ok(Some(Said::Text { size, .. })) => {
+            let end = rest.len().min(*size);
+            rest.len() - split_line(&rest[end..]).1.len()
+        }
+        _ => 0,
     }
 }
 
@@ -110,9 +107,10 @@ pub fn read(heap: Global, script: &[u8]) -> Result<Script, AllocError> {
     let mut rest = script;
     let mut number: usize = 1;
     while !rest.is_empty() {
-        let line = &rest[..before(rest, b'\n')];
-        let after = after_newline(rest);
-        match entry_of(heap, &mut texts, line, after) {
+        let (line, after) = split_line(rest);
+        let said = read_line(heap, line);
+        let (text, next) = after.split_at(belonging(&said, after));
+        match entry_of(heap, &mut texts, said, after) {
             Ok(None) => {}
             Ok(Some(entry)) => lines.push(Line { number, entry })?,
             Err(reason) => {
@@ -120,9 +118,8 @@ pub fn read(heap: Global, script: &[u8]) -> Result<Script, AllocError> {
                 lines.push(Line { number, entry })?
             }
         }
-        rest = after_line(heap, line, after);
-        let text = &after[..after.len() - rest.len()];
         number = number.saturating_add(newlines(text)).saturating_add(1);
+        rest = next;
     }
     Ok(Script { lines })
 }

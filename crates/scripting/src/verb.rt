@@ -76,8 +76,7 @@ impl fmt::Display for Verb {
     ghost output = { λ verb. Some (name_of verb) };
 
     fn fmt<W: fmt::Write>(&self, f: &mut fmt::Formatter<W>) -> fmt::Result {
-        let name = self.name();
-        write!(f, "{name}")
+        f.write_str(self.name())
     }
 }
 

@@ -1,13 +1,12 @@
-use Rattle.std.proofs.Common.{◌≡◌, ℕ, ◌+◌, ◌<◌, List, [], ◌∷◌, ◌++◌, length, take, ap, ◌∙◌, subst, sym, add-one, append_assoc, append-nil, arith}
+use Rattle.std.proofs.Common.{◌≡◌, ℕ, ◌+◌, ◌<◌, List, [], ◌∷◌, ◌++◌, length, take, ap, ◌∙◌, subst, sym, append_assoc, append-nil, arith}
 use Rattle.std.proofs.Math.ListN.{set, length-set}
-use Rattle.std.proofs.Math.Seq.{take-suc-set}
-use Rattle.std.proofs.lemmas.List.{take_all}
+use Rattle.std.proofs.lemmas.List.{take_all, take_more_set}
 use Rattle.scripting.specs.Numerals.{Numbers, none, next}
 use Rattle.scripting.proofs.order.numbers.Goals as goal
 
 -- one number more is written
 one_more : (all : List ℕ) (i n : ℕ) (ns : List ℕ) → i < length all → take (i + 1) (set all i n) ++ ns ≡ take i all ++ n ∷ ns
-one_more all i n ns h = ap (λ k. take k (set all i n) ++ ns) (add-one i) ∙ ap (λ xs. xs ++ ns) (take-suc-set all i n h) ∙ append_assoc (take i all) (n ∷ []) ns
+one_more all i n ns h = ap (λ xs. xs ++ ns) (take_more_set all i n h) ∙ append_assoc (take i all) (n ∷ []) ns
 
 pub loop-n-preserved : goal.loop-n-preserved
 loop-n-preserved g c =

@@ -3,7 +3,7 @@ use Rattle.std.proofs.lemmas.List.{take_more}
 use Rattle.book.specs.Running.{Run}
 use Rattle.book.specs.Verdicts.{unwritten}
 use Rattle.shelf.specs.Views.{state}
-use Rattle.scripting.proofs.Lines.{one_request}
+use Rattle.scripting.proofs.Single.{one_request}
 use Rattle.scripting.proofs.performing.make.Goals as goal
 
 pub returns : goal.returns

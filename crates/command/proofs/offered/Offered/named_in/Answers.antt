@@ -1,4 +1,4 @@
-use Rattle.std.proofs.Common.{◌≡◌, ◌⊎◌, ℕ, List, ◌<◌, length, ap, ◌∙◌, arith, drop, length-take, length-drop, slice_range}
+use Rattle.std.proofs.Common.{◌≡◌, ◌⊎◌, ℕ, List, ◌<◌, length, ap, arith, drop, length-take, length-drop, slice_range}
 use Rattle.command.specs.Choices.{column_of}
 use Rattle.command.specs.declared.offered.Offered.{Offered}
 use Rattle.command.specs.declared.offered.Offered.TheVariants.{Bits, Bytes, Fermat}
