@@ -79,10 +79,6 @@ module _ {F V : Type 0} (K : FiniteField V) (v : F → V) where
   pub held_weighs : (T : Table V) (xs : List F) → HoldsTable K v T xs → (w : Word) → Over T.letters w → weight K (table_at K v xs 0 T.states T.letters) w ≡ weight K T w
   held_weighs T xs made = same_weight K (table_at K v xs 0 T.states T.letters) T made.same
 
-  -- the elements of a table hold it
-  pub held_itself : (t : TableRef F) → HoldsTable K v (table_of K v t) t.elements.now
-  held_itself t = record { len = t.whole; same = record { states = refl; letters = refl; start = λ i l. refl; step = λ a low high i h j l. refl; end = λ i l. refl } }
-
   -- with another start row before what follows it
   pub held_but_start : (T : Table V) {x : ℕ → V} (xs ys zs : List F) → HoldsTable K v T xs → RowOf K v T.states x ys → zs ≡ take (length xs - T.states) (drop T.states xs)
       → HoldsTable K v (record { states = T.states; letters = T.letters; start = x; step = T.step; end = T.end }) (ys ++ zs)

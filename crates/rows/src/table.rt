@@ -70,9 +70,7 @@ impl<'a, F> Clone for TableRef<'a, F> {
 impl<'a, F> Copy for TableRef<'a, F> {}
 
 impl<'a, F: Field> TableRef<'a, F> {
-    ghost use Rattle.series.specs.Tables.{SameTable};
-    ghost use Rattle.rows.specs.Seen.{table_of, RowOf, SquareOf};
-    ghost use Rattle.rows.specs.Layout.{table_at};
+    ghost use Rattle.rows.specs.Seen.{table_of, RowOf, SquareOf, HoldsTable};
 
     /// The table at the front of memory.
     pub fn new(memory: &'a [F], shape: Shape) -> TableRef<'a, F>
@@ -133,8 +131,7 @@ impl<'a, F: Field> TableRef<'a, F> {
 
     /// All its elements.
     pub fn elements(self) -> &'a [F]
-        ensures whole { length result.now ≡ table_size self.entry.shape.states self.entry.shape.letters }
-        ensures same_table { SameTable (table_at F.field F.value result.now 0 self.entry.shape.states self.entry.shape.letters) (table_of F.field F.value self.entry) }
+        ensures holds_it { HoldsTable F.field F.value (table_of F.field F.value self.entry) result.now }
     {
         &self.memory[self.base..self.base + self.shape.size()]
     }

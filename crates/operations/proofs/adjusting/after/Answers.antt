@@ -5,7 +5,7 @@ use Rattle.series.proofs.Operations.{after_weight}
 use Rattle.rows.specs.Memory.{at, square_at}
 use Rattle.rows.specs.Seen.{table_of}
 use Rattle.rows.proofs.Sums.{dot_same}
-use Rattle.rows.proofs.Held.{held_itself, held_but_start, held_weighs, row_long, row_same}
+use Rattle.rows.proofs.Held.{held_but_start, held_weighs, row_long, row_same}
 use Rattle.operations.proofs.adjusting.after.Goals as goal
 
 pub returns : goal.returns
@@ -20,6 +20,6 @@ returns g c =
     (λ j l.
     ap (λ m. move K m (square_at K v matrix 0 m) (at K v start) j) row.len
     ∙ dot_same K T.states row.same (λ i h. c.matrix.ensures.matrix_of_letter.same i h j l)) in
-    let rest = simp (c.elements.ensures.told, c.states-n.ensures.told) at c.copy_from_slice.ensures.after in
-    let made = held_but_start K v T c.args.table.elements.now c.row_times_matrix.new.to c.copy_from_slice.new.self (held_itself K v c.args.table) first rest in
+    let rest = simp (c.states-n.ensures.told) at c.copy_from_slice.ensures.after in
+    let made = held_but_start K v T c.elements.result.now c.row_times_matrix.new.to c.copy_from_slice.new.self c.elements.ensures.holds_it first rest in
     record { after_written = made; weighs_what_follows_the_letter = λ w o. held_weighs K v (after_table K c.args.letter T) _ made w o ∙ after_weight K c.args.letter T w }

@@ -5,7 +5,7 @@ use Rattle.rows.specs.Memory.{at}
 use Rattle.rows.specs.Layout.{end_offset}
 use Rattle.rows.specs.Seen.{table_of, HoldsTable}
 use Rattle.rows.proofs.Slices.{length_part, at_part}
-use Rattle.rows.proofs.Held.{row_long, row_same, held_itself, held_but_end, held_weighs}
+use Rattle.rows.proofs.Held.{row_long, row_same, held_but_end, held_weighs}
 use Rattle.operations.proofs.adjusting.scale.Goals as goal
 
 pub returns : goal.returns
@@ -14,7 +14,7 @@ returns g c =
     let T = table_of K v c.args.table in
     let x = v c.args.factor in
     let xs = c.copy_from_slice.new.self in
-    let copied : HoldsTable K v T xs = subst (HoldsTable K v T) (sym (c.copy_from_slice.ensures.after ∙ c.elements.ensures.told)) (held_itself K v c.args.table) in
+    let copied : HoldsTable K v T xs = subst (HoldsTable K v T) (sym c.copy_from_slice.ensures.after) c.elements.ensures.holds_it in
     let e = length xs - c.states.result in
     let from : e ≡ end_offset 0 T.states T.letters = omega (arith, copied.len) in
     let end =
