@@ -1,5 +1,5 @@
 //! Tables in lent memory: their shape, and a table seen whole and by its parts.
-ghost use Rattle.std.specs.Prelude.{◌≡◌, ◌+◌, ◌*◌, ◌<◌, ◌≤◌, length, MatchOption, ⊤};
+ghost use Rattle.std.specs.Prelude.{◌≡◌, ◌+◌, ◌*◌, ◌<◌, ◌≤◌, length, slice_range, MatchOption, ⊤};
 ghost use Rattle.rows.specs.Layout.{table_size};
 
 use field::Field;
@@ -8,8 +8,8 @@ use std::alloc::AllocError;
 /// How many states and letters a table has: from 0 to 16 states and from 1 to 6 letters; no other shape can be made.
 #[derive(Clone, Copy, Debug, PartialEq, Eq)]
 pub struct Shape {
-    states: usize,
-    letters: usize,
+    pub states: usize,
+    pub letters: usize,
     ghost few_states: { states ≤ 16 },
     ghost some_letter: { 1 ≤ letters },
     ghost few_letters: { letters ≤ 6 },
@@ -131,6 +131,7 @@ impl<'a, F: Field> TableRef<'a, F> {
 
     /// All its elements.
     pub fn elements(self) -> &'a [F]
+        ensures very_elements { result.now ≡ slice_range self.entry.memory.now self.entry.base (self.entry.base + table_size self.entry.shape.states self.entry.shape.letters) }
         ensures holds_it { HoldsTable F.field F.value (table_of F.field F.value self.entry) result.now }
     {
         &self.memory[self.base..self.base + self.shape.size()]

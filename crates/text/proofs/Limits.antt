@@ -2,6 +2,7 @@
 use Rattle.std.proofs.Common.{◌≡◌, ℕ, ◌+◌, ◌*◌, ◌<◌, ◌≤◌, ap, ⊎_elim, mul_assoc, mul-le-mul, mul-zero, arith}
 use Rattle.std.proofs.lemmas.Bool.{cases_eq}
 use Rattle.rows.specs.Layout.{table_size}
+use Rattle.rows.specs.declared.table.Shape.{Shape}
 use Rattle.text.specs.Texts.{Limits, text_size}
 
 -- how many matrix rows and how many of their entries there are at most
@@ -27,3 +28,7 @@ text_most n k l =
     let wide : 24 + 11 * n ≤ 200 = omega (arith, l.states) in
     let all : k * n * (24 + 11 * n) ≤ 96 * 200 = mul-le-mul {n₂ = 96} rows wide in
     omega (arith, l.states)
+
+-- a shape is within the limits
+abbrev pub shape_limits : (z : Shape) → Limits z.states z.letters
+shape_limits z = record { states = z.few_states; some_letter = z.some_letter; letters = z.few_letters }

@@ -71,7 +71,7 @@ module _ {F V : Type 0} (K : FiniteField V) (value : F → V) where
             ∙ ap (λ l. line 84 (n ∷ k ∷ K.q ∷ []) ++ l) (rest.over ∙ ap (λ l. l ++ left t) (sym (body_front n k ys (drop b work) long)))
             ∙ sym (append_assoc (line 84 (n ∷ k ∷ K.q ∷ [])) (body_of K (table_at K value (put_mid 0 b work ys) 0 n k)) (left t))
 
-        pub accepts : left t ≡ [] → Accepts K value text (record { states = n; letters = k }) (put_mid 0 b work ys)
+        pub accepts : left t ≡ [] → Accepts K value text (record { states = n; letters = k; few_states = limits.states; some_letter = limits.some_letter; few_letters = limits.letters }) (put_mid 0 b work ys)
         accepts h = record { sized = limits; is = whole ∙ ap (λ l. text_of K (table_at K value (put_mid 0 b work ys) 0 n k) ++ l) h ∙ append-nil _ }
 
         pub past_refuses : 0 < length (left t) → Refuses K text (Beyond t.position)

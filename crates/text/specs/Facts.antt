@@ -6,7 +6,7 @@ use Rattle.rows.specs.Layout.{table_at}
 use Rattle.text.specs.Texts.{text_of, text_size}
 use Rattle.text.specs.Readings.{Sized, Accepts, Refuses}
 use Rattle.faults.specs.declared.LoadFault.{LoadFault}
-use Rattle.text.specs.declared.shape.Shape.{Shape}
+use Rattle.rows.specs.declared.table.Shape.{Shape}
 
 module _ {V : Type 0} (K : FiniteField V) where
   -- the byte count goes by the table's size

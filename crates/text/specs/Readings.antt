@@ -9,7 +9,7 @@ use Rattle.text.specs.Texts.{Limits, text_of, table_items, body_items}
 use Rattle.faults.specs.declared.LoadFault.{LoadFault}
 use Rattle.faults.specs.declared.LoadFault.TheVariants.{Beyond}
 use Rattle.columns.specs.declared.line.Kind.TheVariants as kind
-use Rattle.text.specs.declared.shape.Shape.{Shape}
+use Rattle.rows.specs.declared.table.Shape.{Shape}
 
 -- a table within the limits
 abbrev pub Sized : {V : Type 0} → Table V → Type 0

@@ -2,6 +2,5 @@
 #![tactic(auto)]
 
 mod lines;
-pub mod shape;
 pub mod table;
 pub mod theorems;

@@ -3,15 +3,15 @@ ghost use Rattle.std.specs.Prelude.{◌≡◌, ◌+◌, ◌-◌, ◌*◌, ◌<�
 ghost use Rattle.columns.specs.Lines.{letter as letter_of, due_letter, row_due, next, numbers, TenDigits, line as line_of};
 ghost use Rattle.reader.specs.Items.{close, along, after, exact_items, line_items, Stops};
 ghost use Rattle.reader.specs.Steps.{left, Able, AtLine, Went};
-ghost use Rattle.text.specs.Texts.{Limits, code_items, table_items};
+ghost use Rattle.text.specs.Texts.{code_items, table_items};
 ghost use Rattle.text.specs.Rows.{codes_of, row_lines, row_items};
 ghost use Rattle.columns.specs.declared.line.Kind.TheVariants as kind;
 
-use super::shape::Shape;
 use columns::line::Due;
 use faults::LoadFault;
 use field::Field;
 use reader::Reader;
+use rows::table::Shape;
 
 /// Goes over a number for each of the values, of just that value.
 fn exactly(reader: &mut Reader<'_>, values: &[u64]) -> Result<(), LoadFault>
@@ -63,7 +63,7 @@ pub fn codes_line<F: Field>(
 /// Goes over the first line: what it says of the table, and the line due after it.
 pub fn table_line<F: Field>(reader: &mut Reader<'_>) -> Result<(Shape, Due), LoadFault>
     requires starts { AtLine reader.old 10000 }
-    ensures shape_or_stops { MatchResult result (λ got. Limits got.0.states got.0.letters × Went reader.old reader.new (line_of (letter_of kind.Table) (got.0.states ∷ got.0.letters ∷ F.field.q ∷ [])) (after close reader.old.position) × (got.1 ≡ Due.Start)) (λ f. Stops (table_items F.field) reader.old.position (left reader.old) f) }
+    ensures shape_or_stops { MatchResult result (λ got. Went reader.old reader.new (line_of (letter_of kind.Table) (got.0.states ∷ got.0.letters ∷ F.field.q ∷ [])) (after close reader.old.position) × (got.1 ≡ Due.Start)) (λ f. Stops (table_items F.field) reader.old.position (left reader.old) f) }
 {
     let then = reader.head(Due::Table, 0)?;
     let states = reader.within(0, 16)?;

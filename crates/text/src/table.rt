@@ -5,15 +5,15 @@ ghost use Rattle.rows.specs.Memory.{Frame};
 ghost use Rattle.rows.specs.Layout.{table_size, table_at};
 ghost use Rattle.reader.specs.Items.{Stops};
 ghost use Rattle.reader.specs.Steps.{left, AtLine, Went};
-ghost use Rattle.text.specs.Texts.{Limits, text_of, body_of, body_items};
+ghost use Rattle.text.specs.Texts.{text_of, body_of, body_items};
 ghost use Rattle.text.specs.Readings.{Sized, Accepts, Refuses};
 
 use super::lines::{codes_line, matrices, table_line};
-use super::shape::Shape;
 use columns::line::Due;
 use faults::LoadFault;
 use field::Field;
 use reader::Reader;
+use rows::table::Shape;
 
 /// Goes over the lines after the first, of which `due` is due; the elements take the table's values.
 fn body<F: Field>(
@@ -24,7 +24,6 @@ fn body<F: Field>(
 ) -> Result<(), LoadFault>
     requires starts { AtLine reader.old 100 }
     requires start_due { due ≡ Due.Start }
-    requires limits { Limits shape.states shape.letters }
     requires room { length elements.old ≡ table_size shape.states shape.letters }
     ensures lines_or_stops { MatchResult result (λ _. Went reader.old reader.new (body_of F.field (table_at F.field F.value elements.new 0 shape.states shape.letters)) (record { line = reader.old.position.line + (3 + shape.letters * shape.states); column = 1 })) (λ f. Stops (body_items F.field shape.states shape.letters) reader.old.position (left reader.old) f) }
 {
@@ -40,7 +39,7 @@ fn body<F: Field>(
     Ok(())
 }
 
-/// Reads the table of a text into the front of `work`: its size, or why the text is refused.
+/// Reads the table of a text into the front of `work`: its shape, or why the text is refused.
 pub fn read_table<F: Field>(text: &[u8], work: &mut [F]) -> Result<Shape, LoadFault>
     requires room { 1568 ≤ length work.old }
     ensures accepted_or_refused { MatchResult result (λ shape. Accepts F.field F.value text.now shape work.new) (λ f. Refuses F.field text.now f) }
@@ -49,9 +48,7 @@ pub fn read_table<F: Field>(text: &[u8], work: &mut [F]) -> Result<Shape, LoadFa
 {
     let mut reader = Reader::new(text);
     let (shape, due) = table_line::<F>(&mut reader)?;
-    let n = shape.states;
-    let block = n + shape.letters * (n * n) + n;
-    body(&mut reader, due, shape, &mut work[0..block])?;
+    body(&mut reader, due, shape, &mut work[0..shape.size()])?;
     reader.finish()?;
     Ok(shape)
 }

@@ -3,13 +3,14 @@
 
 ghost use Rattle.std.specs.Prelude.{◌≡◌, ◌+◌, ◌-◌, ◌*◌, ◌<◌, ◌≤◌, [], ◌∷◌, ◌++◌, length, take, drop};
 ghost use Rattle.rows.specs.Layout.{table_size, table_at};
+ghost use Rattle.rows.specs.Seen.{table_of};
 ghost use Rattle.columns.specs.Lines.{letter as letter_of, line as line_of, TenDigits};
-ghost use Rattle.text.specs.Texts.{Limits, text_size, text_of, body_of};
+ghost use Rattle.text.specs.Texts.{text_size, text_of, body_of};
 ghost use Rattle.text.specs.Rows.{codes_of, row_lines};
 
 use columns::line::{Kind, put_line};
 use field::Field;
-use text::shape::Shape;
+use rows::table::{Shape, TableRef};
 
 /// Writes a line of the numbers `heads` and then of the elements' codes.
 fn put_codes_line<F: Field>(out: &mut [u8], kind: Kind, heads: &[u64], elements: &[F])
@@ -23,7 +24,6 @@ fn put_codes_line<F: Field>(out: &mut [u8], kind: Kind, heads: &[u64], elements:
 
 /// Writes the first line: the table's sizes and the field's q.
 fn put_table_line<F: Field>(out: &mut [u8], shape: Shape)
-    requires limits { Limits shape.states shape.letters }
     requires room { length out.old ≡ 35 }
     ensures written { out.new ≡ line_of (letter_of Kind.Table) (shape.states ∷ shape.letters ∷ F.field.q ∷ []) }
 {
@@ -55,7 +55,6 @@ fn put_matrices<F: Field>(out: &mut [u8], n: usize, count: usize, elements: &[F]
 
 /// Writes the lines after the first.
 fn put_body<F: Field>(out: &mut [u8], shape: Shape, elements: &[F])
-    requires limits { Limits shape.states shape.letters }
     requires all { length elements.now ≡ table_size shape.states shape.letters }
     requires room { length out.old + 35 ≡ text_size shape.states shape.letters }
     ensures written { out.new ≡ body_of F.field (table_at F.field F.value elements.now 0 shape.states shape.letters) }
@@ -75,7 +74,6 @@ fn put_body<F: Field>(out: &mut [u8], shape: Shape, elements: &[F])
 
 /// How many bytes the text of a table of this shape has.
 pub fn text_size(shape: Shape) -> usize
-    requires limits { Limits shape.states shape.letters }
     ensures counted { result ≡ text_size shape.states shape.letters }
     ensures at_most { result ≤ 19593 }
 {
@@ -83,21 +81,18 @@ pub fn text_size(shape: Shape) -> usize
     41 + 22 * n + shape.letters * n * (24 + 11 * n)
 }
 
-/// Writes the text of the table that lies at `base` to the front of `output`: how many bytes it has.
-pub fn write_table<F: Field>(shelf: &[F], base: usize, shape: Shape, output: &mut [u8]) -> usize
-    requires limits { Limits shape.states shape.letters }
-    requires table_within { base + table_size shape.states shape.letters ≤ length shelf.now }
-    requires room { text_size shape.states shape.letters ≤ length output.old }
-    ensures counted { result ≡ text_size shape.states shape.letters }
-    ensures written { take result output.new ≡ text_of F.field (table_at F.field F.value shelf.now base shape.states shape.letters) }
+/// Writes the text of a table to the front of `output`: how many bytes it has.
+pub fn write_table<F: Field>(table: TableRef<'_, F>, output: &mut [u8]) -> usize
+    requires room { text_size table.shape.states table.shape.letters ≤ length output.old }
+    ensures counted { result ≡ text_size table.entry.shape.states table.entry.shape.letters }
+    ensures written { take result output.new ≡ text_of F.field (table_of F.field F.value table.entry) }
     ensures later_bytes_kept { drop result output.new ≡ drop result output.old }
 {
-    let n = shape.states;
-    let block = n + shape.letters * (n * n) + n;
+    let shape = table.shape();
     let size = text_size(shape);
     let (text, _) = output.split_at_mut(size);
     let (table_line, lines) = text.split_at_mut(35);
     put_table_line::<F>(table_line, shape);
-    put_body(lines, shape, &shelf[base..base + block]);
+    put_body(lines, shape, table.elements());
     size
 }

@@ -61,7 +61,6 @@ returns g c =
     let body = went_on _ _ _ _ _ 11 22 33 refl a.3 (went_on _ _ _ _ _ 11 11 22 refl b.3 (went_nil _ _ _ _ (exact c.within-2.new.self c.within-3.new.self _ g.F.Field.field.q _ (omega arith) (omega arith) d.3))) in
     record {
       shape_or_stops = (
-        record { states = omega arith; some_letter = omega arith; letters = omega arith },
         line_went 84 c.args.reader.now c.head.new.self c.within-3.new.self _ _ c.in_ok-then.ensures.due_or_halted.0 body _ c.in_ok-newline.ensures.next_line_or_halted,
         c.in_ok-then.ensures.due_or_halted.1,
       );

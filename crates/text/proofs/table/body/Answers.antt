@@ -12,7 +12,7 @@ use Rattle.reader.proofs.Runs.{stops_here, head_stops, stops_front}
 use Rattle.text.proofs.Rows.{items_at, row_stops, row_past, lines_past}
 use Rattle.text.proofs.Bodies.{body_went, went_first, went_byte, first_stops}
 use Rattle.text.proofs.Laid.{read_laid, flat_stops}
-use Rattle.text.proofs.Limits.{most, parts_fit}
+use Rattle.text.proofs.Limits.{most, parts_fit, shape_limits}
 use Rattle.text.proofs.table.body.Given as given
 use Rattle.text.proofs.table.body.Goals as goal
 use Rattle.text.proofs.table.body.Goals.{In_ok-row_due, In_ok-end_due, In_ok-close_due}
@@ -42,7 +42,7 @@ past_rows g c js f stops =
     let value = g.F.Field.value in
     let n = c.args.shape.states in
     let k = c.args.shape.letters in
-    lines_past (K.q - 1) n (k * n) (high_small K value) js c.codes_line.new.reader c.matrices.new.reader (codes_of K value c.matrices.new.elements) f (omega (arith, most n k c.requires.limits)) (length-map c.matrices.new.elements (λ x. K.code (value x)) ∙ rows_long g c) (codes_high K value c.matrices.new.elements) (ap (λ p. p.column) c.in_ok-row_due.ensures.line_or_stops.0.position) c.in_ok-end_due.ensures.lines_or_stops.0 stops
+    lines_past (K.q - 1) n (k * n) (high_small K value) js c.codes_line.new.reader c.matrices.new.reader (codes_of K value c.matrices.new.elements) f (omega (arith, most n k (shape_limits c.args.shape))) (length-map c.matrices.new.elements (λ x. K.code (value x)) ∙ rows_long g c) (codes_high K value c.matrices.new.elements) (ap (λ p. p.column) c.in_ok-row_due.ensures.line_or_stops.0.position) c.in_ok-end_due.ensures.lines_or_stops.0 stops
 
 past_end : (g : given.Over) (c : In_ok-close_due g) (js : List Item) (f : LoadFault) → Stops js c.codes_line-2.new.reader.position (left c.codes_line-2.new.reader) f → Stops (line_items 69 (replicate c.args.shape.states (ranged 0 (g.F.Field.field.q - 1))) ++ js) c.matrices.new.reader.position (left c.matrices.new.reader) f
 past_end g c js f stops =

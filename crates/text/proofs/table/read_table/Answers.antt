@@ -4,12 +4,12 @@ use Rattle.rows.specs.Layout.{table_size}
 use Rattle.text.specs.Readings.{Refuses}
 use Rattle.text.proofs.Decides.{decided}
 use Rattle.columns.proofs.Filled.{cut_length}
-use Rattle.text.proofs.Limits.{block_fits}
+use Rattle.text.proofs.Limits.{shape_limits}
 use Rattle.text.proofs.Verdicts.{frame_none, frame_front, first_refuses, body_refuses, accepts, past_refuses}
 use Rattle.text.proofs.table.read_table.Goals as goal
 
 pub slice_bounds-body-end : goal.slice_bounds-body-end
-slice_bounds-body-end g c = let h = block_fits c.in_ok-shape.shape.states c.in_ok-shape.shape.letters c.in_ok-shape.ensures.shape_or_stops.0 in omega (arith, c.requires.room)
+slice_bounds-body-end g c = omega (arith, c.requires.room, c.size.ensures.at_most_1568)
 
 pub returns-in_err-shape : goal.returns-in_err-shape
 returns-in_err-shape g c =
@@ -27,10 +27,9 @@ returns-in_err-body g c =
     let got = c.in_ok-shape.ensures.shape_or_stops in
     let n = c.in_ok-shape.shape.states in
     let k = c.in_ok-shape.shape.letters in
-    let h = block_fits n k got.0 in
-    let long : length c.body.new.elements ≡ table_size n k = c.body.auto.elements ∙ cut_length 0 (table_size n k) (table_size n k) c.args.work.now (omega arith) (omega (arith, c.requires.room)) in
-    let refused = body_refuses K g.F.Field.value text c.new-reader.result c.new-reader.ensures.at_the_start c.table_line.new.reader n k got.0 got.1 _ c.in_err-body.ensures.lines_or_stops in
-    rw (p.1, p.2) (record { accepted_or_refused = refused; refused_has_no_table = λ e T s t. (decided K text).0 T _ s t refused; table_alone_written = frame_front (table_size n k) 1568 c.args.work.now c.body.new.elements long h c.requires.room })
+    let taken : length c.body.new.elements ≡ c.size.result = c.body.auto.elements ∙ cut_length 0 c.size.result c.size.result c.args.work.now (omega arith) (omega (arith, c.requires.room, c.size.ensures.at_most_1568)) in
+    let refused = body_refuses K g.F.Field.value text c.new-reader.result c.new-reader.ensures.at_the_start c.table_line.new.reader n k (shape_limits c.in_ok-shape.shape) got.0 _ c.in_err-body.ensures.lines_or_stops in
+    rw (p.1, p.2) (record { accepted_or_refused = refused; refused_has_no_table = λ e T s t. (decided K text).0 T _ s t refused; table_alone_written = frame_front c.size.result 1568 c.args.work.now c.body.new.elements taken c.size.ensures.at_most_1568 c.requires.room })
 
 pub returns-in_err-finish : goal.returns-in_err-finish
 returns-in_err-finish g c =
@@ -40,14 +39,14 @@ returns-in_err-finish g c =
     let got = c.in_ok-shape.ensures.shape_or_stops in
     let n = c.in_ok-shape.shape.states in
     let k = c.in_ok-shape.shape.letters in
-    let h = block_fits n k got.0 in
     let work = c.args.work.now in
     let ys = c.body.new.elements in
-    let long : length ys ≡ table_size n k = c.body.auto.elements ∙ cut_length 0 (table_size n k) (table_size n k) work (omega arith) (omega (arith, c.requires.room)) in
+    let taken : length ys ≡ c.size.result = c.body.auto.elements ∙ cut_length 0 c.size.result c.size.result work (omega arith) (omega (arith, c.requires.room, c.size.ensures.at_most_1568)) in
+    let long : length ys ≡ table_size n k = taken ∙ c.size.ensures.is_table_size in
     let more = c.in_err-finish.ensures.over_or_beyond in
-    let refused = past_refuses K g.F.Field.value text c.new-reader.result c.new-reader.ensures.at_the_start c.table_line.new.reader n k got.0 got.1 c.body.new.reader (table_size n k - 0) work ys long c.in_ok-body.ensures.lines_or_stops more.0 in
+    let refused = past_refuses K g.F.Field.value text c.new-reader.result c.new-reader.ensures.at_the_start c.table_line.new.reader n k (shape_limits c.in_ok-shape.shape) got.0 c.body.new.reader (c.size.result - 0) work ys long c.in_ok-body.ensures.lines_or_stops more.0 in
     let said = subst (Refuses K text) (sym more.1) refused in
-    rw (p.1, p.2) (record { accepted_or_refused = said; refused_has_no_table = λ e T s t. (decided K text).0 T _ s t said; table_alone_written = frame_front (table_size n k) 1568 work ys long h c.requires.room })
+    rw (p.1, p.2) (record { accepted_or_refused = said; refused_has_no_table = λ e T s t. (decided K text).0 T _ s t said; table_alone_written = frame_front c.size.result 1568 work ys taken c.size.ensures.at_most_1568 c.requires.room })
 
 pub returns : goal.returns
 returns g c =
@@ -55,12 +54,12 @@ returns g c =
     let got = c.in_ok-shape.ensures.shape_or_stops in
     let n = c.in_ok-shape.shape.states in
     let k = c.in_ok-shape.shape.letters in
-    let h = block_fits n k got.0 in
     let work = c.args.work.now in
     let ys = c.body.new.elements in
-    let long : length ys ≡ table_size n k = c.body.auto.elements ∙ cut_length 0 (table_size n k) (table_size n k) work (omega arith) (omega (arith, c.requires.room)) in
+    let taken : length ys ≡ c.size.result = c.body.auto.elements ∙ cut_length 0 c.size.result c.size.result work (omega arith) (omega (arith, c.requires.room, c.size.ensures.at_most_1568)) in
+    let long : length ys ≡ table_size n k = taken ∙ c.size.ensures.is_table_size in
     record {
-      accepted_or_refused = accepts K g.F.Field.value c.args.text.now c.new-reader.result c.new-reader.ensures.at_the_start c.table_line.new.reader n k got.0 got.1 c.body.new.reader (table_size n k - 0) work ys long c.in_ok-body.ensures.lines_or_stops c.in_ok-finish.ensures.over_or_beyond;
+      accepted_or_refused = accepts K g.F.Field.value c.args.text.now c.new-reader.result c.new-reader.ensures.at_the_start c.table_line.new.reader n k (shape_limits c.in_ok-shape.shape) got.0 c.body.new.reader (c.size.result - 0) work ys long c.in_ok-body.ensures.lines_or_stops c.in_ok-finish.ensures.over_or_beyond;
       refused_has_no_table = λ e T s t. let z : ◌≡◌ {A = ℕ} 0 1 = cc in omega arith;
-      table_alone_written = frame_front (table_size n k) (table_size n k) work ys long (omega arith) (omega (arith, c.requires.room));
+      table_alone_written = frame_front c.size.result (table_size n k) work ys taken (omega (arith, c.size.ensures.is_table_size)) (omega (arith, c.requires.room));
     }

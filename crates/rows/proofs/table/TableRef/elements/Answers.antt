@@ -2,13 +2,11 @@ use Rattle.std.proofs.Common.{◌+◌, sym, ap, ◌∙◌, arith}
 use Rattle.rows.proofs.Slices.{length_part, table_part}
 use Rattle.rows.proofs.table.TableRef.elements.Goals as goal
 
-pub returns : goal.returns
-returns g c =
+pub returns-clause-holds_it : goal.returns-clause-holds_it
+returns-clause-holds_it g c =
     let t = c.args.self in
     let size = c.size.ensures.is_table_size in
     record {
-      holds_it = record {
-        len = length_part t.base (t.base + c.size.result) t.memory.now (omega arith) (omega (arith, t.within, size)) ∙ omega (arith, size);
-        same = table_part g.F.Field.field g.F.Field.value t.base (t.base + c.size.result) t.shape.states t.shape.letters t.memory.now (ap (λ m. t.base + m) (sym size));
-      };
+      len = length_part t.base (t.base + c.size.result) t.memory.now (omega arith) (omega (arith, t.within, size)) ∙ omega (arith, size);
+      same = table_part g.F.Field.field g.F.Field.value t.base (t.base + c.size.result) t.shape.states t.shape.letters t.memory.now (ap (λ m. t.base + m) (sym size));
     }
