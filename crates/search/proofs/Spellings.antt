@@ -1,13 +1,14 @@
 -- Reported words. Assumes nothing.
-use Rattle.std.proofs.Common.{◌≡◌, ℕ, ◌+◌, ◌-◌, ◌<◌, List, [], ◌∷◌, ◌++◌, length, get_or, take, drop, set, replicate, sym, ap, ◌∙◌, subst, append_assoc, arith, length-append, take_at, drop_at}
-use Rattle.std.proofs.lemmas.List.{drop-set, drop-replicate}
+use Rattle.std.proofs.Common.{◌≡◌, ℕ, ◌+◌, ◌-◌, ◌<◌, List, [], ◌∷◌, ◌++◌, length, take, drop, set, replicate, reverse, sym, ap, ◌∙◌, subst, append_assoc, arith, length-append, take_at, drop_at}
+use Rattle.std.proofs.lemmas.List.{drop-set-lt, drop-drop, drop-replicate, take_more_set, reverse-append}
 use Rattle.field.specs.FiniteField.{FiniteField}
 use Rattle.series.specs.Tables.{Table}
 use Rattle.series.specs.Words.{Word}
 use Rattle.search.specs.Answers.{spelling, Padded, Reported}
 use Rattle.walk.specs.Comparing.{FirstDifference}
 use Rattle.search.specs.Spelling.{Spells}
-use Rattle.walk.specs.Walking.{Linked}
+use Rattle.walk.specs.Walking.{link_at, Linked}
+use Rattle.walk.specs.declared.links.Link.{Link}
 use Rattle.search.specs.declared.word.ReportedWord.{ReportedWord}
 
 module _ (r : ReportedWord) (w : Word) (s : Spells r w) where
@@ -22,18 +23,19 @@ module _ (r : ReportedWord) (w : Word) (s : Spells r w) where
       }
 
 -- a linked word is one letter longer than its parent
-pub linked_longer : (count : ℕ) (words : ℕ → Word) (qs ls : List ℕ) → Linked count words qs ls → (j : ℕ) → 0 < j → j < count → length (words j) ≡ length (words (get_or qs j 0)) + 1
-linked_longer count words qs ls l j z b = ap length (l.links j z b) ∙ length-append (words (get_or qs j 0)) (get_or ls j 0 ∷ [])
+pub linked_longer : (count : ℕ) (words : ℕ → Word) (links : List Link) → Linked count words links → (j : ℕ) → 0 < j → j < count → length (words j) ≡ length (words (link_at links j).parent) + 1
+linked_longer count words links l j z b = ap length (l.follows j z b) ∙ length-append (words (link_at links j).parent) ((link_at links j).letter ∷ [])
 
--- the last letter is written, and zeros stand behind it
-pub last_written : (u : Word) (a place : ℕ) → place < 31 → u ++ drop place (set (replicate 31 0) place a) ≡ (u ++ a ∷ []) ++ replicate (31 - (place + 1)) 0
-last_written u a place l =
-    ap (λ q. u ++ q) (drop-set (replicate 31 0) place a l ∙ ap (λ q. a ∷ q) (drop-replicate (place + 1) 31 0))
-    ∙ sym (append_assoc u (a ∷ []) (replicate (31 - (place + 1)) 0))
+-- one letter more is written behind those that are, which stand backwards
+pub letter_written : (u w : Word) (a n : ℕ) (xs : List ℕ) → n < length xs → (u ++ a ∷ []) ++ reverse (take n xs) ≡ w → u ++ reverse (take (n + 1) (set xs n a)) ≡ w
+letter_written u w a n xs l e =
+    ap (λ q. u ++ q) (ap reverse (take_more_set xs n a l) ∙ reverse-append (take n xs) (a ∷ []))
+    ∙ sym (append_assoc u (a ∷ []) (reverse (take n xs))) ∙ e
 
--- one letter more is written before those that are
-pub letter_written : (u : Word) (a place : ℕ) (xs w : List ℕ) → place < length xs → (u ++ a ∷ []) ++ drop (place + 1) xs ≡ w → u ++ drop place (set xs place a) ≡ w
-letter_written u a place xs w l e = ap (λ q. u ++ q) (drop-set xs place a l) ∙ sym (append_assoc u (a ∷ []) (drop (place + 1) xs)) ∙ e
+-- zeros stand behind it
+pub zeros_behind : (a n : ℕ) (xs : List ℕ) → n < 31 → drop n xs ≡ replicate (31 - n) 0 → drop (n + 1) (set xs n a) ≡ replicate (31 - (n + 1)) 0
+zeros_behind a n xs l e =
+    drop-set-lt (n + 1) xs n a (omega arith) ∙ sym (drop-drop 1 n xs) ∙ ap (drop 1) e ∙ drop-replicate 1 (31 - n) 0 ∙ ap (λ m. replicate m 0) (omega arith)
 
 -- a least difference that is reported
 pub reported : {V : Type 0} (K : FiniteField V) (S T : Table V) (r : ReportedWord) (w : Word) (tried left right : ℕ) → Spells r w → FirstDifference K S T w tried left right → Reported K S T r tried left right

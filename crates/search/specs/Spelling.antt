@@ -1,8 +1,8 @@
 -- How a word is reported. Assumes nothing.
 use Rattle.std.specs.Prelude.{◌≡◌, ℕ, ◌-◌, ◌<◌, ◌≤◌, ◌++◌, length, replicate}
 use Rattle.series.specs.Words.{Word}
-use Rattle.walk.specs.Walking.{Linked}
-use Rattle.walk.specs.declared.walk.Walk.{Walk}
+use Rattle.walk.specs.Walking.{kept, Linked}
+use Rattle.walk.specs.declared.links.Walk.{Walk}
 use Rattle.search.specs.declared.word.ReportedWord.{ReportedWord}
 
 -- r has the letters of w, and 0 behind them
@@ -14,7 +14,7 @@ pub record Spells (r : ReportedWord) (w : Word) : Type 0 where
 -- the kept words are linked, and the word `parent` leaves room for one letter more
 pub record Spellable (w : Walk) (parent : ℕ) : Type 0 where
   pub words : ℕ → Word
-  pub linked : Linked w.count words w.parents w.letters
-  pub inside : parent < w.count
-  pub few : w.count ≤ 32
+  pub linked : Linked (kept w) words w.links.items
+  pub inside : parent < kept w
+  pub few : kept w ≤ 32
   pub fits : length (words parent) < 31

@@ -1,14 +1,17 @@
 //! Comparing two tables: whether all words weigh alike, and if not, the first word that does not.
-ghost use Rattle.std.specs.Prelude.{◌≡◌, ◌≤◌, length as size};
-ghost use Rattle.rows.specs.Tables.{Lies, table_of};
+ghost use Rattle.std.specs.Prelude.{◌≤◌, length as size};
 ghost use Rattle.series.specs.Comparing.{Alike as AllWordsAlike};
+ghost use Rattle.walk.specs.Pairs.{left_table, right_table};
 ghost use Rattle.search.specs.Answers.{Compared, SaysAlike, Bounded};
 
 use crate::word::{ReportedWord, empty_word, spell};
 use field::Field;
-use rows::layout::TableAt;
+use walk::links::Walk;
 use walk::pairs::Pair;
-use walk::walk::{Walk, try_empty, try_rest};
+use walk::walk::{try_empty, try_rest};
+
+// Where in work memory the rows in echelon form begin; the pair rows of the kept words lie before them.
+const ECHELON: usize = 2048;
 
 /// What the comparison of two tables answers.
 #[derive(Clone, Copy)]
@@ -27,20 +30,18 @@ pub enum Comparison {
     },
 }
 
-/// Compares two tables of a shelf that have one letter count. Work memory is overwritten.
-pub fn compare<F: Field>(work: &mut [F], shelf: &[F], left: TableAt, right: TableAt) -> Comparison
-    requires left_lies { Lies (size shelf.now) left }
-    requires right_lies { Lies (size shelf.now) right }
-    requires same_letters { right.letters ≡ left.letters }
+/// Compares two tables that have one letter count. Work memory is overwritten.
+pub fn compare<F: Field>(work: &mut [F], pair: Pair<'_, F>) -> Comparison
     requires room { 8192 ≤ size work.old }
-    ensures answer { Compared F.field (table_of F.field F.value shelf.now left) (table_of F.field F.value shelf.now right) result }
+    ensures answer { Compared F.field (left_table F.field F.value pair.entry) (right_table F.field F.value pair.entry) result }
     ensures bounded { Bounded result }
-    ensures alike_only_if_all_weigh_alike { SaysAlike result → AllWordsAlike F.field (table_of F.field F.value shelf.now left) (table_of F.field F.value shelf.now right) }
-    ensures alike_if_all_weigh_alike { AllWordsAlike F.field (table_of F.field F.value shelf.now left) (table_of F.field F.value shelf.now right) → SaysAlike result }
+    ensures alike_only_if_all_weigh_alike { SaysAlike result → AllWordsAlike F.field (left_table F.field F.value pair.entry) (right_table F.field F.value pair.entry) }
+    ensures alike_if_all_weigh_alike { AllWordsAlike F.field (left_table F.field F.value pair.entry) (right_table F.field F.value pair.entry) → SaysAlike result }
 {
-    let both = Pair { left, right };
+    let (rows, echelon) = work.split_at_mut(ECHELON);
+    let letters = pair.left.letters();
     let mut walk = Walk::new();
-    if let Some(weights) = try_empty(work, &mut walk, shelf, both) {
+    if let Some(weights) = try_empty(rows, echelon, &mut walk, pair) {
         return Comparison::Differs {
             word: empty_word(),
             tried: 1,
@@ -48,18 +49,16 @@ pub fn compare<F: Field>(work: &mut [F], shelf: &[F], left: TableAt, right: Tabl
             right: weights.right,
         };
     }
-    if let Some(f) = try_rest(work, &mut walk, shelf, both) {
-        let word = spell(&walk, f.parent, f.letter);
-        let tried = 1 + f.parent * left.letters + f.letter;
+    if let Some(f) = try_rest(rows, echelon, &mut walk, pair) {
         return Comparison::Differs {
-            word,
-            tried,
+            word: spell(&walk, f.last),
+            tried: 1 + f.last.parent * letters + usize::from(f.last.letter),
             left: f.weights.left,
             right: f.weights.right,
         };
     }
     Comparison::Alike {
-        tried: 1 + left.letters * walk.count,
-        kept: walk.count,
+        tried: 1 + letters * walk.count(),
+        kept: walk.count(),
     }
 }

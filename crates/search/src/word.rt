@@ -1,12 +1,13 @@
 //! The reported word, spelt out from the links of the kept words.
-ghost use Rattle.std.specs.Prelude.{◌≡◌, ℕ, ◌≤◌, [], ◌∷◌, ◌++◌, length as size};
+ghost use Rattle.std.specs.Prelude.{◌≡◌, ℕ, ◌≤◌, [], ◌∷◌, ◌++◌};
 ghost use Rattle.series.specs.Words.{Word};
-ghost use Rattle.walk.specs.Walking.{Linked};
+ghost use Rattle.walk.specs.Walking.{kept, Linked};
 ghost use Rattle.search.specs.Spelling.{Spellable, Spells};
 
-use walk::walk::Walk;
+use walk::links::{Link, Walk};
 
 /// A word of at most 31 letters; the places behind them are 0.
+// No vector of fixed room: a verdict's record has 31 places with zeros behind the letters, and a comparison can be copied.
 #[derive(Clone, Copy)]
 pub struct ReportedWord {
     pub length: usize,
@@ -17,39 +18,28 @@ pub struct ReportedWord {
 pub fn empty_word() -> ReportedWord
     ensures spells_nothing { Spells result [] }
 {
-    let letters = [0u8; 31];
-    ReportedWord { length: 0, letters }
+    ReportedWord {
+        length: 0,
+        letters: [0; 31],
+    }
 }
 
-// How many letters the kept word `parent` has.
-fn depth(walk: &Walk, parent: usize) -> usize
-    requires spellable { Spellable walk.now parent }
-    ensures is_length { (words : ℕ → Word) → Linked walk.now.count words walk.now.parents walk.now.letters → result ≡ size (words parent) }
+/// The word of the link: a kept word and one letter more.
+pub fn spell(walk: &Walk, last: Link) -> ReportedWord
+    requires spellable { Spellable walk.now last.parent }
+    ensures spells_word { (words : ℕ → Word) → Linked (kept walk.now) words walk.now.links.items → Spells result (words last.parent ++ last.letter ∷ []) }
 {
-    let mut n = 0;
-    let mut j = parent;
+    let mut letters = [0; 31];
+    letters[0] = last.letter;
+    let mut length = 1;
+    let mut j = last.parent;
+    // each link tells only the next one, so that no range or iterator of std goes through them
     while j > 0 {
-        n += 1;
-        j = walk.parents[j];
+        let link = walk.links[j];
+        letters[length] = link.letter;
+        length += 1;
+        j = link.parent;
     }
-    n
-}
-
-/// The kept word `parent` and one letter more.
-pub fn spell(walk: &Walk, parent: usize, letter: usize) -> ReportedWord
-    requires spellable { Spellable walk.now parent }
-    requires letter { letter ≤ 6 }
-    ensures spells_word { (words : ℕ → Word) → Linked walk.now.count words walk.now.parents walk.now.letters → Spells result (words parent ++ letter ∷ []) }
-{
-    let mut place = depth(walk, parent);
-    let length = place + 1;
-    let mut letters = [0u8; 31];
-    letters[place] = letter as u8;
-    let mut j = parent;
-    while j > 0 {
-        place -= 1;
-        letters[place] = walk.letters[j];
-        j = walk.parents[j];
-    }
+    letters[..length].reverse();
     ReportedWord { length, letters }
 }

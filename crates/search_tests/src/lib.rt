@@ -1,8 +1,8 @@
 //! Tests of the comparison on worked examples: words as long as they can be, equal tables, tables of zeros or without states.
 #![tactic(auto)]
 
-ghost use Rattle.std.specs.Prelude.{◌≡◌, ◌≤◌, length};
-ghost use Rattle.rows.specs.Tables.{Lies};
+ghost use Rattle.std.specs.Prelude.{◌≡◌, ◌+◌, ◌≤◌, length};
+ghost use Rattle.rows.specs.Layout.{table_size};
 
 #[cfg(test)]
 mod tests {
@@ -10,10 +10,11 @@ mod tests {
     use field::Field;
     use loose::Loose;
     use residue::{Bit, Fermat};
-    use rows::layout::TableAt;
+    use rows::table::{Shape, TableRef};
     use search::compare::{Comparison, compare};
     use std::process::Abort;
     use std::test::Fail;
+    use walk::pairs::Pair;
 
     // Letters in their places, as the digits of a number.
     fn digits(letters: &[u8]) -> u64 {
@@ -36,19 +37,28 @@ mod tests {
         Ok(())
     }
 
+    // The table of so many states and letters that begins at a place of the shelf.
+    fn table<F: Field>(shelf: &[F], base: usize, states: usize, letters: usize) -> TableRef<'_, F>
+        requires shape_within { (states ≤ 16) × ((1 ≤ letters) × (letters ≤ 6)) }
+        requires table_within { base + table_size states letters ≤ length shelf.now }
+        ensures of_letters { result.shape.letters ≡ letters }
+    {
+        let shape = Shape::new(states, letters);
+        TableRef::new(&shelf[base..base + shape.size()], shape)
+    }
+
     // How many words are tried and kept, if all weigh alike.
     fn check_alike<F: Field>(
         rt: &impl Abort,
         work: &mut [F],
-        shelf: &[F],
-        left: TableAt,
-        right: TableAt,
+        left: TableRef<'_, F>,
+        right: TableRef<'_, F>,
         counts: (usize, usize),
     ) -> Result<(), Fail>
-        requires tables_lie { (Lies (length shelf.now) left) × ((Lies (length shelf.now) right) × (right.letters ≡ left.letters)) }
+        requires same_letters { right.shape.letters ≡ left.shape.letters }
         requires room { 8192 ≤ length work.old }
     {
-        match compare(work, shelf, left, right) {
+        match compare(work, Pair { left, right }) {
             Comparison::Alike { tried, kept } => {
                 assert_eq!(rt; (tried, kept), counts);
                 Ok(())
@@ -61,15 +71,14 @@ mod tests {
     fn check_differ<F: Field>(
         rt: &impl Abort,
         work: &mut [F],
-        shelf: &[F],
-        left: TableAt,
-        right: TableAt,
+        left: TableRef<'_, F>,
+        right: TableRef<'_, F>,
         expected: [u64; 6],
     ) -> Result<(), Fail>
-        requires tables_lie { (Lies (length shelf.now) left) × ((Lies (length shelf.now) right) × (right.letters ≡ left.letters)) }
+        requires same_letters { right.shape.letters ≡ left.shape.letters }
         requires room { 8192 ≤ length work.old }
     {
-        match compare(work, shelf, left, right) {
+        match compare(work, Pair { left, right }) {
             Comparison::Alike { .. } => Err(Fail::new("different tables are alike")),
             Comparison::Differs {
                 word,
@@ -156,25 +165,16 @@ mod tests {
                 (1087, 333),
             ],
         )?;
-        let left = TableAt {
-            base: 0,
-            states: 16,
-            letters: 2,
-        };
-        let right = TableAt {
-            base: 544,
-            states: 16,
-            letters: 2,
-        };
+        let left = table(shelf, 0, 16, 2);
+        let right = table(shelf, 544, 16, 2);
         check_differ(
             rt,
             work,
-            shelf,
             left,
             right,
             [31, 62, 1212121212121212, 121212121212121, 55513, 55512],
         )?;
-        check_alike(rt, work, shelf, left, left, (33, 16))
+        check_alike(rt, work, left, left, (33, 16))
     }
 
     #[test]
@@ -212,20 +212,11 @@ mod tests {
                 (21, 1),
             ],
         )?;
-        let left = TableAt {
-            base: 0,
-            states: 3,
-            letters: 1,
-        };
-        let right = TableAt {
-            base: 15,
-            states: 2,
-            letters: 1,
-        };
+        let left = table(&shelf, 0, 3, 1);
+        let right = table(&shelf, 15, 2, 1);
         check_differ(
             &rt,
             &mut work,
-            &shelf,
             left,
             right,
             [4, 5, 1111000000000000, 0, 1, 0],
@@ -248,17 +239,9 @@ mod tests {
                 (15, 1),
             ],
         )?;
-        let one = TableAt {
-            base: 0,
-            states: 1,
-            letters: 2,
-        };
-        let two = TableAt {
-            base: 4,
-            states: 2,
-            letters: 2,
-        };
-        check_alike(&rt, &mut work, &shelf, one, two, (5, 2))
+        let one = table(&shelf, 0, 1, 2);
+        let two = table(&shelf, 4, 2, 2);
+        check_alike(&rt, &mut work, one, two, (5, 2))
     }
 
     #[test]
@@ -282,20 +265,11 @@ mod tests {
                 (51, 55),
             ],
         )?;
-        let left = TableAt {
-            base: 0,
-            states: 4,
-            letters: 2,
-        };
-        let right = TableAt {
-            base: 40,
-            states: 2,
-            letters: 2,
-        };
+        let left = table(&shelf, 0, 4, 2);
+        let right = table(&shelf, 40, 2, 2);
         check_differ(
             &rt,
             &mut work,
-            &shelf,
             left,
             right,
             [5, 10, 1212100000000000, 0, 255, 254],
@@ -333,53 +307,25 @@ mod tests {
                 (35, 128),
             ],
         )?;
-        let plain = TableAt {
-            base: 0,
-            states: 2,
-            letters: 2,
-        };
-        let other = TableAt {
-            base: 12,
-            states: 3,
-            letters: 2,
-        };
-        check_alike(&rt, &mut work, &shelf, plain, other, (5, 2))
+        let plain = table(&shelf, 0, 2, 2);
+        let other = table(&shelf, 12, 3, 2);
+        check_alike(&rt, &mut work, plain, other, (5, 2))
     }
 
     #[test]
     fn zeros_and_no_states(rt: HostRuntime) -> Result<(), Fail> {
         let mut work = [Fermat::zero(); 8192];
         let mut shelf = [Fermat::zero(); 64];
-        let none = TableAt {
-            base: 0,
-            states: 0,
-            letters: 2,
-        };
-        let two = TableAt {
-            base: 0,
-            states: 2,
-            letters: 2,
-        };
-        let three = TableAt {
-            base: 12,
-            states: 3,
-            letters: 2,
-        };
-        check_alike(&rt, &mut work, &shelf, two, three, (1, 0))?;
-        check_alike(&rt, &mut work, &shelf, none, none, (1, 0))?;
-        check_alike(&rt, &mut work, &shelf, none, three, (1, 0))?;
+        let none = table(&shelf, 0, 0, 2);
+        let two = table(&shelf, 0, 2, 2);
+        let three = table(&shelf, 12, 3, 2);
+        check_alike(&rt, &mut work, two, three, (1, 0))?;
+        check_alike(&rt, &mut work, none, none, (1, 0))?;
+        check_alike(&rt, &mut work, none, three, (1, 0))?;
         put(&mut shelf, &[(0, 5), (2, 7)])?;
-        let none = TableAt {
-            base: 0,
-            states: 0,
-            letters: 1,
-        };
-        let one = TableAt {
-            base: 0,
-            states: 1,
-            letters: 1,
-        };
-        check_differ(&rt, &mut work, &shelf, none, one, [0, 1, 0, 0, 0, 35])?;
-        check_differ(&rt, &mut work, &shelf, one, none, [0, 1, 0, 0, 35, 0])
+        let none = table(&shelf, 0, 0, 1);
+        let one = table(&shelf, 0, 1, 1);
+        check_differ(&rt, &mut work, none, one, [0, 1, 0, 0, 0, 35])?;
+        check_differ(&rt, &mut work, one, none, [0, 1, 0, 0, 35, 0])
     }
 }

@@ -1,78 +1,85 @@
-use Rattle.std.proofs.Common.{◌≡◌, ◌+◌, ◌-◌, ◌<◌, [], ◌∷◌, ◌++◌, length, get_or, drop, replicate, sym, ap, ◌∙◌, arith, length-append}
+use Rattle.std.proofs.Common.{◌≡◌, ◌+◌, ◌-◌, ◌<◌, [], ◌∷◌, ◌++◌, length, take, replicate, reverse, refl, sym, ap, ap₂, ◌∙◌, arith, length-append}
 use Rattle.std.proofs.lemmas.List.{length-set}
-use Rattle.search.proofs.Spellings.{linked_longer, last_written, letter_written}
+use Rattle.walk.specs.Walking.{kept, link_at}
+use Rattle.search.proofs.Spellings.{linked_longer, letter_written, zeros_behind}
 use Rattle.search.proofs.word.spell.Goals as goal
 
 pub loop-j-init : goal.loop-j-init
-loop-j-init c =
-    let p = c.requires.spellable in
-    let place = c.depth-place.result in
-    let is = c.depth-place.ensures.is_length in
-    let here = is p.words p.linked in
-    let fits = p.fits in
-    let room : place < 31 = omega arith in (
-      p.inside,
-      length-set (replicate 31 0) place c.args.letter,
-      room,
-      λ words l. (is words l, last_written (words c.args.parent) c.args.letter place room),
-    )
+loop-j-init c = record {
+  inside = c.requires.spellable.inside;
+  long = refl;
+  some = omega arith;
+  few = omega arith;
+  zeros = refl;
+  lengths = λ words l. refl;
+  spelt = λ words l. refl;
+}
 
-pub overflow_sub-place : goal.overflow_sub-place
-overflow_sub-place c =
+pub bounds-deref-j : goal.bounds-deref-j
+bounds-deref-j c =
+    let inside = c.loop-j.invariant.inside in
+    let each = c.args.walk.now.one_each in
+    rw (c.deref.ensures.0) (omega arith)
+
+pub bounds-letters-length : goal.bounds-letters-length
+bounds-letters-length c =
     let p = c.requires.spellable in
     let w = c.args.walk.now in
     let i = c.loop-j.invariant in
-    let more = linked_longer w.count p.words w.parents w.letters p.linked c.loop-j.j c.loop-j-test.true i.0 in
-    let here = (i.3 p.words p.linked).0 in
+    let more = linked_longer (kept w) p.words w.links.items p.linked c.loop-j.j c.loop-j-test.true i.inside in
+    let so_far = i.lengths p.words p.linked in
+    let fits = p.fits in
+    let long = i.long in
     omega arith
 
 pub loop-j-preserved : goal.loop-j-preserved
 loop-j-preserved c =
+    let p = c.requires.spellable in
     let w = c.args.walk.now in
     let j = c.loop-j.j in
-    let place = c.loop-j.place in
-    let letters = c.loop-j.letters in
+    let n = c.loop-j.length in
     let i = c.loop-j.invariant in
     let some : 0 < j = c.loop-j-test.true in
-    let inside : j < w.count = i.0 in
-    let under = c.requires.spellable.linked.earlier j some inside in
-    let letter = get_or w.letters j 0 in
-    let long : length letters ≡ 31 = i.1 in (
-      omega arith,
-      length-set letters (place - 1) letter ∙ long,
-      omega arith,
-      λ words l.
-          let more = linked_longer w.count words w.parents w.letters l j some inside in
-          let here = (i.3 words l).0 in
-          let back : place - 1 + 1 ≡ place = omega arith in (
-            omega arith,
-            letter_written (words (get_or w.parents j 0)) letter (place - 1) letters ((words c.args.parent ++ c.args.letter ∷ []) ++ replicate (31 - (c.depth-place.result + 1)) 0) (omega arith)
-                (ap (λ q. q ++ drop (place - 1 + 1) letters) (sym (l.links j some inside)) ∙ ap (λ n. words j ++ drop n letters) back ∙ (i.3 words l).1),
-          ),
-    )
+    let under = p.linked.earlier j some i.inside in
+    let inside = i.inside in
+    let link = link_at w.links.items j in
+    let more = linked_longer (kept w) p.words w.links.items p.linked j some i.inside in
+    let so_far = i.lengths p.words p.linked in
+    let fits = p.fits in
+    let room : n < 31 = omega arith in
+    let long : length c.loop-j.letters ≡ 31 = i.long in
+    rw (c.deref.ensures.0)
+    record {
+      inside = omega arith;
+      long = length-set c.loop-j.letters n link.letter ∙ long;
+      some = omega arith;
+      few = omega arith;
+      zeros = zeros_behind link.letter n c.loop-j.letters room i.zeros;
+      lengths = λ words l. let longer = linked_longer (kept w) words w.links.items l j some i.inside in let before = i.lengths words l in omega arith;
+      spelt = λ words l. letter_written (words link.parent) _ link.letter n c.loop-j.letters (omega arith) (ap (λ q. q ++ reverse (take n c.loop-j.letters)) (sym (l.follows j some i.inside)) ∙ i.spelt words l);
+    }
 
 pub returns : goal.returns
 returns c =
-    let p = c.requires.spellable in
-    let place = c.depth-place.result in
-    let is = c.depth-place.ensures.is_length in
     let i = c.loop-j.invariant in
+    let n = c.loop-j.length in
     let none : c.loop-j.j ≡ 0 = omega arith in
-    let last = c.args.letter ∷ [] in
-    let here = is p.words p.linked in
-    let fits = p.fits in
+    let inside = i.inside in
     record {
       spells_word = λ words l.
-          let u = words c.args.parent in
+          let u = words c.args.last.parent in
+          let w = u ++ c.args.last.letter ∷ [] in
           let first : words c.loop-j.j ≡ [] = ap words none ∙ l.root (omega arith) in
-          let empty : c.loop-j.place ≡ 0 = (i.3 words l).0 ∙ ap length first in
-          let long : length (u ++ last) ≡ length u + 1 = length-append u last in
-          let short : place ≡ length u = is words l in
+          let long : length w ≡ length u + 1 = length-append u (c.args.last.letter ∷ []) in
+          let before = i.lengths words l in
+          let empty = ap length first in
+          let same : n ≡ length w = omega arith in
+          let few = i.few in
           record {
             fits = omega arith;
-            length_is = omega arith;
+            length_is = same;
             letters_are =
-                ap (λ n. drop n c.loop-j.letters) (sym empty) ∙ ap (λ q. q ++ drop c.loop-j.place c.loop-j.letters) (sym first)
-                ∙ (i.3 words l).1 ∙ ap (λ n. (u ++ last) ++ replicate (31 - n) 0) (ap (λ n. n + 1) short ∙ sym long);
+                ap₂ (λ p q. p ++ q) (c.reverse.ensures.after ∙ ap (λ q. q ++ reverse (take n c.loop-j.letters)) (sym first) ∙ i.spelt words l)
+                (i.zeros ∙ ap (λ m. replicate (31 - m) 0) same);
           };
     }
