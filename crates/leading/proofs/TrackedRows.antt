@@ -9,7 +9,7 @@ use Rattle.series.specs.Tables.{Agree}
 use Rattle.series.proofs.SumLaws.{sum_same, sum_zero, sum_plus, sum_times}
 use Rattle.series.proofs.SpanLaws.{span_fewer, span_zero}
 use Rattle.elimination.specs.Elimination.{Remainder}
-use Rattle.elimination.proofs.Remainders.{remainder_room, remainder_nothing, nothing_same, new_same}
+use Rattle.elimination.proofs.Remainders.{remainder_room, remainder_same, remainder_nothing}
 use Rattle.leading.specs.Tracking.{Tracks, Bare, Tracked, Combination, NewTracked}
 
 module _ {V : Type 0} (K : FiniteField V) where
@@ -98,16 +98,28 @@ module _ {V : Type 0} (K : FiniteField V) where
   pub echelon_wide : (d n : ℕ) (q : ℕ → ℕ → V) (p : ℕ → ℕ) → d ≤ 32 → Echelon K (λ i. i < d) n q p → Echelon K (λ i. i < 32) n q p
   echelon_wide d n q p h e = record { within = λ i l. let w = e.within i l in omega arith; apart = e.apart; clear = e.clear }
 
-  -- the same of a row x with the same numbers, and of a row z with the same entries
-  module _ (d n : ℕ) (ps q : ℕ → ℕ → V) (p : ℕ → ℕ) (x x' : ℕ → V) (e : Agree d x x') where
-    pub combination_same : (y : ℕ → V) → Combination K d n ps q p x y → Combination K d n ps q p x' y
-    combination_same y c = record { nothing = nothing_same K d n q p x x' e c.nothing; made = λ i l. sym (e i l) ∙ c.made i l; bare = c.bare }
+  -- rows with the same entries have the same coefficients
+  pub tracked_same : (d n : ℕ) (ps q q' : ℕ → ℕ → V) → d ≤ 16 → n ≤ 16 → ((b : ℕ) → b < n → Agree 32 (q' b) (q b)) → Tracked K d n ps q → Tracked K d n ps q'
+  tracked_same d n ps q q' small few s t =
+      record {
+        tracks = λ b l i g. s b l i (omega arith) ∙ t.tracks b l i g ∙ mix_same n (λ j. q b (16 + j)) (λ j. q' b (16 + j)) ps ps i (λ j f. sym (s b l (16 + j) (omega arith))) (λ j f. refl);
+        bare = λ b l j g f. s b l (16 + j) (omega arith) ∙ t.bare b l j g f;
+      }
 
-    pub new_tracked_same : (b : ℕ) (z z' : ℕ → V) → Agree 32 z' z → d ≤ 16 → NewTracked K d n ps q p x b z → NewTracked K d n ps q p x' b z'
-    new_tracked_same b z z' h small f =
-        let room = f.new.room in
+  -- the same of rows with the same entries, of a row x with the same numbers, and of a row z with the same entries
+  module _ (d n : ℕ) (ps q q' : ℕ → ℕ → V) (p : ℕ → ℕ) (x x' : ℕ → V) (small : d ≤ 16) (s : (b : ℕ) → b < n → Agree 32 (q' b) (q b)) (e : Agree d x x') where
+    left : (y : ℕ → V) → Remainder K d n q' p x y → Remainder K d n q p x' y
+    left y r = remainder_same K d n q q' p x' x y (λ b l j h. s b l j (omega arith)) e r
+
+    pub combination_same : (y : ℕ → V) → Combination K d n ps q' p x y → Combination K d n ps q p x' y
+    combination_same y c = record { nothing = left (λ _. K.zero) c.nothing; made = λ i l. sym (e i l) ∙ c.made i l; bare = c.bare }
+
+    pub new_tracked_same : (b : ℕ) (z z' : ℕ → V) → Agree 32 z' z → NewTracked K d n ps q' p x b z → NewTracked K d n ps q p x' b z'
+    new_tracked_same b z z' h f =
+        let w = f.new in
+        let room = w.room in
         record {
-          new = new_same K d n q p x x' b z z' e (λ j l. h j (omega arith)) f.new;
+          new = record { rest = w.rest; remainder = left w.rest w.remainder; within = w.within; apart = w.apart; scaled = λ j l. h j (omega arith) ∙ w.scaled j l; room = room };
           tracks = λ qs same last i l. h i (omega arith) ∙ f.tracks qs same (λ i l. last i l ∙ sym (e i l)) i l ∙ mix_same (suc n) (λ j. z (16 + j)) (λ j. z' (16 + j)) qs qs i (λ j g. sym (h (16 + j) (omega arith))) (λ j g. refl);
           bare = λ j l g. h (16 + j) (omega arith) ∙ f.bare j l g;
         }

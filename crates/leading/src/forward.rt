@@ -1,163 +1,159 @@
 //! The forward pass: the leading words, found in order through the spanning columns, and the coefficients of each followed by
 //! each letter.
-ghost use Rattle.std.specs.Prelude.{◌≡◌, ◌+◌, ◌*◌, ◌<◌, ◌≤◌, [], ◌∷◌, ◌++◌, length};
-ghost use Rattle.series.specs.Words.{Word};
-ghost use Rattle.series.specs.Tables.{dot as product, row, Agree};
-ghost use Rattle.rows.specs.Memory.{row_at, Frame};
-ghost use Rattle.rows.specs.Tables.{Lies, table_of};
-ghost use Rattle.spanning.specs.Plan.{column_at, word_row_at, tracked_at};
+ghost use Rattle.std.specs.Prelude.{◌≡◌, [], ℕ, ◌+◌, ◌*◌, ◌<◌, ◌≤◌, List, length};
+ghost use Rattle.series.specs.Tables.{dot as product, move, Agree};
+ghost use Rattle.rows.specs.Memory.{at, row_at, Written};
+ghost use Rattle.rows.specs.Seen.{table_of};
+ghost use Rattle.spanning.specs.Plan.{vector_at};
+ghost use Rattle.spanning.specs.Views.{columns_of, Spanned};
 ghost use Rattle.leading.specs.Tracking.{Bare};
-ghost use Rattle.spanning.specs.Views.{Spanned};
-ghost use Rattle.leading.specs.Forward.{Trying, Walked, Finished, Unmoved};
+ghost use Rattle.leading.specs.Forward.{viewed, Trying, Walked, Finished};
 
-use crate::tracking::track_row;
-use crate::vectors::{negate_row, project_row, unit_row};
+use crate::tracking::{TRACKED, track_row};
+use crate::vectors::{clear_row, negate_row, project_row, unit_row};
+use crate::view::View;
 use field::Field;
-use rows::arithmetic::row_times_matrix;
-use rows::blocks::{clear_block, copy_block};
-use rows::layout::TableAt;
-use spanning::found::Found;
-use spanning::plan::{COEFFICIENTS, TRACKED, WORD_ROWS};
+use rows::row::row_times_matrix;
+use spanning::{Pivots, WIDTH};
 
-// Writes the products of the row behind the rows of `count` words with the d columns, behind the tracked rows, with no coefficients.
-fn see_row<F: Field>(work: &mut [F], count: usize, n: usize, d: usize)
-    requires small { (n ≤ 16) × ((d ≤ 16) × (count ≤ 16)) }
-    requires room { 8192 ≤ length work.old }
-    ensures products_written { Agree d (row_at F.field F.value work.new (tracked_at + count * 32)) (λ j. product F.field n (row_at F.field F.value work.old (word_row_at count)) (row_at F.field F.value work.old (column_at j))) }
-    ensures no_coefficients { Bare F.field 0 (row_at F.field F.value work.new (tracked_at + count * 32)) }
-    ensures all_else_unchanged { Frame (tracked_at + count * 32) 32 work.old work.new }
+/// How many elements the coefficients of a leading word take: 16 for each letter, from letter 0 on, which is none.
+pub const COEFFICIENTS: usize = 128;
+
+// Writes to `seen` the products of the row with the columns of the view, and no coefficients behind them.
+fn see_row<F: Field>(row: &[F], view: &View<'_, F>, seen: &mut [F])
+    requires short { length row.now ≤ 16 }
+    requires wide { length seen.old ≡ 32 }
+    ensures products_written { Agree view.now.count (at F.field F.value seen.new) (λ j. product F.field (length row.now) (at F.field F.value row.now) (columns_of F.field F.value view.now.columns.now j)) }
+    ensures no_coefficients { Bare F.field 0 (at F.field F.value seen.new) }
 {
-    let to = TRACKED + count * 32;
-    project_row(work, WORD_ROWS + count * 16, to, n, d);
-    clear_block(work, to + 16, 16);
+    let (numbers, coefficients) = seen.split_at_mut(WIDTH);
+    project_row(row, view.columns, &mut numbers[..view.count]);
+    clear_row(coefficients);
 }
 
-// Writes the row of word i followed by a letter behind the rows of the `count` words, and its products with the d columns.
+// Writes the row of word i followed by a letter behind the rows of `count` words, and to `seen` what the view shows of it.
 fn next_row<F: Field>(
-    work: &mut [F],
+    rows: &mut [F],
+    count: usize,
     i: usize,
     letter: usize,
-    count: usize,
-    shelf: &[F],
-    table: TableAt,
-    d: usize,
+    view: &View<'_, F>,
+    seen: &mut [F],
 )
-    requires lies { Lies (length shelf.now) table }
-    requires room { 8192 ≤ length work.old }
-    requires small { (d ≤ 16) × ((count ≤ d) × (i < count)) }
-    requires letter_of_table { (1 ≤ letter) × (letter ≤ table.letters) }
-    ensures all_else_unmoved { Unmoved F.field F.value count (i * 128 + letter * 16) work.old work.new }
-    ensures row_of_next_word { (u : Word) → Agree table.states (row_at F.field F.value work.old (word_row_at i)) (row F.field (table_of F.field F.value shelf.now table) u)
-        → Agree table.states (row_at F.field F.value work.new (word_row_at count)) (row F.field (table_of F.field F.value shelf.now table) (u ++ letter ∷ [])) }
-    ensures products_written { Agree d (row_at F.field F.value work.new (tracked_at + count * 32)) (λ j. product F.field table.states (row_at F.field F.value work.new (word_row_at count)) (row_at F.field F.value work.new (column_at j))) }
-    ensures no_coefficients { Bare F.field 0 (row_at F.field F.value work.new (tracked_at + count * 32)) }
+    requires room { 272 ≤ length rows.old }
+    requires wide { length seen.old ≡ 32 }
+    requires small { (count ≤ 16) × (i < count) }
+    requires letter_of_table { (1 ≤ letter) × (letter ≤ view.now.table.shape.letters) }
+    ensures row_written { Written F.field F.value (vector_at count) view.now.table.shape.states (move F.field view.now.table.shape.states ((viewed F.field F.value view.now).step letter) (row_at F.field F.value rows.old (vector_at i))) rows.old rows.new }
+    ensures products_written { Agree view.now.count (at F.field F.value seen.new) (λ j. product F.field view.now.table.shape.states (row_at F.field F.value rows.new (vector_at count)) (columns_of F.field F.value view.now.columns.now j)) }
+    ensures no_coefficients { Bare F.field 0 (at F.field F.value seen.new) }
 {
+    let n = view.table.states();
+    let (found, rest) = rows.split_at_mut(count * WIDTH);
+    let next = &mut rest[..n];
     row_times_matrix(
-        work,
-        WORD_ROWS + i * 16,
-        WORD_ROWS + count * 16,
-        shelf,
-        table.matrix(letter),
-        table.states,
+        &found[i * WIDTH..i * WIDTH + n],
+        view.table.matrix(letter),
+        next,
     );
-    see_row(work, count, table.states, d);
+    see_row(next, view, seen);
 }
 
 // Tries word i followed by one letter, and writes its coefficients.
 fn try_letter<F: Field>(
-    work: &mut [F],
-    found: &mut Found,
+    rows: &mut [F],
+    tracked: &mut [F],
+    coefficients: &mut [F],
+    pivots: &mut Pivots,
     i: usize,
     letter: usize,
-    shelf: &[F],
-    table: TableAt,
-    d: usize,
+    view: &View<'_, F>,
 )
-    requires lies { Lies (length shelf.now) table }
-    requires room { 8192 ≤ length work.old }
-    requires letter_of_table { (1 ≤ letter) × (letter ≤ table.letters) }
-    requires due { Trying F.field F.value (table_of F.field F.value shelf.now table) d i letter found.old work.old }
-    ensures next_due { Trying F.field F.value (table_of F.field F.value shelf.now table) d i (letter + 1) found.new work.new }
-    ensures length_kept { length work.new ≡ length work.old }
+    requires letter_of_table { (1 ≤ letter) × (letter ≤ view.now.table.shape.letters) }
+    requires due { Trying F.field F.value view.now i letter pivots.old.items rows.old tracked.old coefficients.old }
+    ensures next_due { Trying F.field F.value view.now i (letter + 1) pivots.new.items rows.new tracked.new coefficients.new }
 {
-    let count = found.count;
-    let to = COEFFICIENTS + (i * 128 + letter * 16);
-    next_row(work, i, letter, count, shelf, table, d);
-    match track_row(work, count, d, &found.pivots) {
-        None => negate_row(work, TRACKED + count * 32 + 16, to, 16),
+    let count = pivots.len();
+    let (basis, rest) = tracked.split_at_mut(count * TRACKED);
+    let seen = &mut rest[..TRACKED];
+    next_row(rows, count, i, letter, view, seen);
+    let from = i * COEFFICIENTS + letter * WIDTH;
+    let to = &mut coefficients[from..from + WIDTH];
+    match track_row(seen, basis, pivots, view.count) {
+        None => negate_row(&rest[WIDTH..TRACKED], to),
         Some(pivot) => {
-            unit_row(work, to, 16, count);
-            found.push(pivot);
+            unit_row(to, count);
+            pivots.push(pivot);
         }
     }
 }
 
 // Tries word i followed by each letter.
 fn try_letters<F: Field>(
-    work: &mut [F],
-    found: &mut Found,
+    rows: &mut [F],
+    tracked: &mut [F],
+    coefficients: &mut [F],
+    pivots: &mut Pivots,
     i: usize,
-    shelf: &[F],
-    table: TableAt,
-    d: usize,
+    view: &View<'_, F>,
 )
-    requires lies { Lies (length shelf.now) table }
-    requires room { 8192 ≤ length work.old }
-    requires due { Trying F.field F.value (table_of F.field F.value shelf.now table) d i 1 found.old work.old }
-    ensures all_tried { Trying F.field F.value (table_of F.field F.value shelf.now table) d i (table.letters + 1) found.new work.new }
-    ensures length_kept { length work.new ≡ length work.old }
+    requires due { Trying F.field F.value view.now i 1 pivots.old.items rows.old tracked.old coefficients.old }
+    ensures all_tried { Trying F.field F.value view.now i (view.now.table.shape.letters + 1) pivots.new.items rows.new tracked.new coefficients.new }
 {
-    for a in 1..table.letters + 1 {
-        try_letter(work, found, i, a, shelf, table, d);
+    for letter in 1..=view.table.letters() {
+        try_letter(rows, tracked, coefficients, pivots, i, letter, view);
     }
 }
 
 // Tries each leading word followed by each letter, those too that are found on the way.
-fn follow_words<F: Field>(work: &mut [F], found: &mut Found, shelf: &[F], table: TableAt, d: usize)
-    requires lies { Lies (length shelf.now) table }
-    requires room { 8192 ≤ length work.old }
-    requires begun { Walked F.field F.value (table_of F.field F.value shelf.now table) d 0 found.old work.old }
-    ensures walked { Walked F.field F.value (table_of F.field F.value shelf.now table) d found.new.count found.new work.new }
-    ensures length_kept { length work.new ≡ length work.old }
+fn follow_words<F: Field>(
+    rows: &mut [F],
+    tracked: &mut [F],
+    coefficients: &mut [F],
+    pivots: &mut Pivots,
+    view: &View<'_, F>,
+)
+    requires begun { Walked F.field F.value view.now 0 pivots.old.items rows.old tracked.old coefficients.old }
+    ensures walked { Walked F.field F.value view.now (length pivots.new.items) pivots.new.items rows.new tracked.new coefficients.new }
 {
+    // The bound grows while the loop runs. One walk for both passes would need a type that holds a pass's slices and is lent.
     let mut i = 0;
-    while i < found.count {
-        try_letters(work, found, i, shelf, table, d);
+    while i < pivots.len() {
+        try_letters(rows, tracked, coefficients, pivots, i, view);
         i += 1;
     }
 }
 
-// Tries the empty word.
-fn try_empty<F: Field>(work: &mut [F], found: &mut Found, shelf: &[F], table: TableAt, d: usize)
-    requires lies { Lies (length shelf.now) table }
-    requires room { 8192 ≤ length work.old }
-    requires none_found { found.old.count ≡ 0 }
-    requires spanned { Spanned F.field F.value (table_of F.field F.value shelf.now table) d work.old }
-    ensures begun { Walked F.field F.value (table_of F.field F.value shelf.now table) d 0 found.new work.new }
-    ensures length_kept { length work.new ≡ length work.old }
+// Tries the empty word. No coefficients are written.
+fn try_empty<F: Field>(rows: &mut [F], tracked: &mut [F], pivots: &mut Pivots, view: &View<'_, F>)
+    requires room { (272 ≤ length rows.old) × (544 ≤ length tracked.old) }
+    requires none_found { pivots.old.items ≡ [] }
+    requires spanned { Spanned F.field F.value (table_of F.field F.value view.now.table) view.now.count view.now.columns.now }
+    ensures begun { (coefficients : List F) → 2048 ≤ length coefficients → Walked F.field F.value view.now 0 pivots.new.items rows.new tracked.new coefficients }
 {
-    copy_block(shelf, table.base, work, WORD_ROWS, table.states);
-    see_row(work, 0, table.states, d);
-    match track_row(work, 0, d, &found.pivots) {
-        None => {}
-        Some(pivot) => found.push(pivot),
+    let first = &mut rows[..view.table.states()];
+    first.copy_from_slice(view.table.start());
+    let seen = &mut tracked[..TRACKED];
+    see_row(first, view, seen);
+    if let Some(pivot) = track_row(seen, &[], pivots, view.count) {
+        pivots.push(pivot);
     }
 }
 
-/// Finds the leading words, in order, with their rows and the coefficients of each followed by each letter. Answers how many there
-/// are.
-pub fn leading_words<F: Field>(work: &mut [F], shelf: &[F], table: TableAt, d: usize) -> usize
-    requires lies { Lies (length shelf.now) table }
-    requires room { 8192 ≤ length work.old }
-    requires spanned { Spanned F.field F.value (table_of F.field F.value shelf.now table) d work.old }
-    ensures finished { Finished F.field F.value (table_of F.field F.value shelf.now table) d result work.new }
-    ensures length_kept { length work.new ≡ length work.old }
+/// Finds the leading words, in order, with their rows, 16 elements each, and the coefficients of each followed by each letter.
+/// Answers how many there are. `tracked` is for the search.
+pub fn leading_words<F: Field>(
+    rows: &mut [F],
+    tracked: &mut [F],
+    coefficients: &mut [F],
+    view: &View<'_, F>,
+) -> usize
+    requires room { (272 ≤ length rows.old) × ((544 ≤ length tracked.old) × (2048 ≤ length coefficients.old)) }
+    requires spanned { Spanned F.field F.value (table_of F.field F.value view.now.table) view.now.count view.now.columns.now }
+    ensures finished { Finished F.field F.value view.now result rows.new coefficients.new }
 {
-    let mut found = Found {
-        count: 0,
-        pivots: [0; 32],
-    };
-    try_empty(work, &mut found, shelf, table, d);
-    follow_words(work, &mut found, shelf, table, d);
-    found.count
+    let mut pivots = Pivots::new();
+    try_empty(rows, tracked, &mut pivots, view);
+    follow_words(rows, tracked, coefficients, &mut pivots, view);
+    pivots.len()
 }

@@ -4,3 +4,4 @@
 pub mod forward;
 mod tracking;
 pub mod vectors;
+pub mod view;

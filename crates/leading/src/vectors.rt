@@ -1,47 +1,51 @@
-//! Rows that a reduction writes: products with the spanning columns, opposites, and unit rows.
-ghost use Rattle.std.specs.Prelude.{◌+◌, ◌*◌, ◌<◌, ◌≤◌, length};
+//! Rows that a reduction writes: products with columns, opposites, and unit rows.
+ghost use Rattle.std.specs.Prelude.{◌≡◌, ◌*◌, ◌≤◌, length};
 ghost use Rattle.series.specs.Tables.{dot as product};
-ghost use Rattle.rows.specs.Memory.{row_at, Written};
-ghost use Rattle.spanning.specs.Plan.{column_at};
+ghost use Rattle.rows.specs.Memory.{at};
+ghost use Rattle.rows.specs.Seen.{RowOf};
+ghost use Rattle.spanning.specs.Views.{columns_of};
 ghost use Rattle.leading.specs.Units.{unit};
 
 use field::Field;
-use rows::arithmetic::dot;
-use rows::blocks::clear_block;
-use spanning::plan::COLUMNS;
+use rows::row::dot;
+use spanning::WIDTH;
 
-/// Writes to `to` the products of the row of n elements at `from` with the first d spanning columns.
-pub fn project_row<F: Field>(work: &mut [F], from: usize, to: usize, n: usize, d: usize)
-    requires small { (n ≤ 16) × (d ≤ 16) }
-    requires row_before { from + n ≤ to }
-    requires columns_before { column_at 16 ≤ to }
-    requires to_within { to + d ≤ length work.old }
-    ensures products_written { Written F.field F.value to d (λ j. product F.field n (row_at F.field F.value work.old from) (row_at F.field F.value work.old (column_at j))) work.old work.new }
+/// Writes to `to` the products of the row with the first of the columns, which take 16 elements each.
+pub fn project_row<F: Field>(row: &[F], columns: &[F], to: &mut [F])
+    requires short { length row.now ≤ 16 }
+    requires columns_within { length to.old * 16 ≤ length columns.now }
+    ensures products_written { RowOf F.field F.value (length to.old) (λ j. product F.field (length row.now) (at F.field F.value row.now) (columns_of F.field F.value columns.now j)) to.new }
 {
-    for j in 0..d {
-        let x = dot(work, from, work, COLUMNS + j * 16, 1, n);
-        work[to + j] = x;
+    for (j, x) in to.iter_mut().enumerate() {
+        *x = dot(row, columns, j * WIDTH, 1);
     }
 }
 
-/// Writes to `to` the opposites of the n elements at `from`.
-pub fn negate_row<F: Field>(work: &mut [F], from: usize, to: usize, n: usize)
-    requires from_before { from + n ≤ to }
-    requires to_within { to + n ≤ length work.old }
-    ensures opposites_written { Written F.field F.value to n (λ j. F.field.opposite (row_at F.field F.value work.old from j)) work.old work.new }
+/// Writes to `to` the opposites of the row.
+pub fn negate_row<F: Field>(row: &[F], to: &mut [F])
+    requires as_long { length to.old ≡ length row.now }
+    ensures opposites_written { RowOf F.field F.value (length row.now) (λ j. F.field.opposite (at F.field F.value row.now j)) to.new }
 {
-    for j in 0..n {
-        work[to + j] = work[from + j].neg();
+    for (j, x) in to.iter_mut().enumerate() {
+        *x = row[j].neg();
     }
 }
 
-/// Writes to `to` the row of n elements that is one at `place`, if it is that long, and zero elsewhere.
-pub fn unit_row<F: Field>(work: &mut [F], to: usize, n: usize, place: usize)
-    requires to_within { to + n ≤ length work.old }
-    ensures unit_written { Written F.field F.value to n (unit F.field place) work.old work.new }
+/// Fills the row with zero.
+pub fn clear_row<F: Field>(to: &mut [F])
+    ensures zeros_written { RowOf F.field F.value (length to.old) (λ _. F.field.zero) to.new }
 {
-    clear_block(work, to, n);
-    if place < n {
-        work[to + place] = F::one();
+    let zero = F::zero();
+    for x in to.iter_mut() {
+        *x = zero;
+    }
+}
+
+/// Writes to `to` the row that is one at `place`, if it is that long, and zero elsewhere.
+pub fn unit_row<F: Field>(to: &mut [F], place: usize)
+    ensures unit_written { RowOf F.field F.value (length to.old) (unit F.field place) to.new }
+{
+    for (j, x) in to.iter_mut().enumerate() {
+        *x = if j == place { F::one() } else { F::zero() };
     }
 }

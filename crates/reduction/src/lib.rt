@@ -2,39 +2,57 @@
 //! entries or refusals.
 #![tactic(auto)]
 
-ghost use Rattle.std.specs.Prelude.{◌≡◌, ◌≤◌, length};
+ghost use Rattle.std.specs.Prelude.{◌≡◌, ◌≤◌, List, ◌++◌, length};
 ghost use Rattle.series.specs.Reducing.{Reduced};
 ghost use Rattle.series.specs.Tables.{weight};
 ghost use Rattle.rows.specs.Layout.{table_at};
-ghost use Rattle.rows.specs.Tables.{Lies, table_of};
+ghost use Rattle.rows.specs.Seen.{table_of};
 ghost use Rattle.reduction.specs.Promises.{SameWeights, Least, AllZero};
 
 use crate::result::write_form;
 use field::Field;
 use leading::forward::leading_words;
-use rows::layout::TableAt;
+use leading::view::View;
+use rows::table::{Shape, TableRef};
 use spanning::backward::spanning_columns;
 
 mod result;
 
-/// Reduces a table of the shelf: leaves its reduced form in work memory, as a table at element 0, and answers its number of states.
-/// What else work memory holds then, nothing is promised of.
-pub fn reduce<F: Field>(work: &mut [F], shelf: &[F], table: TableAt) -> usize
-    requires lies { Lies (length shelf.now) table }
-    requires room { 8192 ≤ length work.old }
-    ensures reduced_form { Reduced F.field table.letters (weight F.field (table_of F.field F.value shelf.now table)) (table_at F.field F.value work.new 0 result table.letters) }
-    ensures no_more_states { result ≤ table.states }
-    ensures same_weights { SameWeights F.field (table_of F.field F.value shelf.now table) (table_at F.field F.value work.new 0 result table.letters) }
-    ensures least { Least F.field (table_of F.field F.value shelf.now table) (table_at F.field F.value work.new 0 result table.letters) }
-    ensures no_states_for_zero { AllZero F.field (table_of F.field F.value shelf.now table) → result ≡ 0 }
+// Leaves the reduced form of a table at the front of `form`, and answers its number of states. What `rest` holds then, nothing is
+// promised of.
+fn reduce_into<F: Field>(form: &mut [F], rest: &mut [F], table: TableRef<'_, F>) -> usize
+    requires room { (2048 ≤ length form.old) × (6144 ≤ length rest.old) }
+    ensures reduced_form { (behind : List F) → Reduced F.field table.entry.shape.letters (weight F.field (table_of F.field F.value table.entry)) (table_at F.field F.value (form.new ++ behind) 0 result table.entry.shape.letters) }
+    ensures no_more_states { result ≤ table.entry.shape.states }
 {
-    let columns = spanning_columns(work, shelf, table);
-    let found = leading_words(work, shelf, table, columns);
-    let form = TableAt {
-        base: 0,
-        states: found,
-        letters: table.letters,
+    // What is found for at most 16 states takes up to 17 vectors of its kind: the last is the one being tried.
+    let (columns, rest) = rest.split_at_mut(512);
+    let (rows, rest) = rest.split_at_mut(512);
+    let (tracked, rest) = rest.split_at_mut(1024);
+    let (coefficients, echelon) = rest.split_at_mut(2048);
+    let count = spanning_columns(columns, echelon, table);
+    let view = View {
+        table,
+        columns,
+        count,
     };
-    write_form(work, shelf, table, form);
+    let found = leading_words(rows, tracked, coefficients, &view);
+    let size = Shape::new(found, table.letters()).size();
+    write_form(&mut form[..size], found, table, rows, coefficients);
     found
+}
+
+/// Reduces a table: leaves its reduced form in work memory, as a table at element 0, and answers its number of states. What else
+/// work memory holds then, nothing is promised of.
+pub fn reduce<F: Field>(work: &mut [F], table: TableRef<'_, F>) -> usize
+    requires room { 8192 ≤ length work.old }
+    ensures reduced_form { Reduced F.field table.entry.shape.letters (weight F.field (table_of F.field F.value table.entry)) (table_at F.field F.value work.new 0 result table.entry.shape.letters) }
+    ensures no_more_states { result ≤ table.entry.shape.states }
+    ensures same_weights { SameWeights F.field (table_of F.field F.value table.entry) (table_at F.field F.value work.new 0 result table.entry.shape.letters) }
+    ensures least { Least F.field (table_of F.field F.value table.entry) (table_at F.field F.value work.new 0 result table.entry.shape.letters) }
+    ensures no_states_for_zero { AllZero F.field (table_of F.field F.value table.entry) → result ≡ 0 }
+{
+    // The form takes at most 1,568 elements.
+    let (form, rest) = work.split_at_mut(2048);
+    reduce_into(form, rest, table)
 }

@@ -1,72 +1,76 @@
 //! The reduced form, written out as a table: start row, matrices by letter and then by row, end column.
-ghost use Rattle.std.specs.Prelude.{◌≡◌, ℕ, ◌+◌, ◌*◌, ◌≤◌, length};
-ghost use Rattle.rows.specs.Memory.{Frame, Written};
-ghost use Rattle.rows.specs.Layout.{matrix_offset, end_offset};
-ghost use Rattle.rows.specs.Tables.{Lies, table_of, TableWritten};
-ghost use Rattle.reduction.specs.Result.{MatrixFrom, form_of};
+ghost use Rattle.std.specs.Prelude.{◌≡◌, ℕ, ◌-◌, ◌*◌, ◌<◌, ◌≤◌, length};
+ghost use Rattle.series.specs.Tables.{dot as product, SameTable, Agree};
+ghost use Rattle.rows.specs.Memory.{at, row_at, square_at};
+ghost use Rattle.rows.specs.Layout.{table_size, table_at};
+ghost use Rattle.rows.specs.Seen.{table_of, RowOf, SquareOf};
+ghost use Rattle.spanning.specs.Plan.{vector_at, coefficients_at};
+ghost use Rattle.reduction.specs.Result.{form_of};
 
 use field::Field;
+use leading::forward::COEFFICIENTS;
 use leading::vectors::unit_row;
-use rows::arithmetic::dot;
-use rows::blocks::move_block;
-use rows::layout::TableAt;
-use spanning::plan::{COEFFICIENTS, WORD_ROWS};
+use rows::row::dot;
+use rows::table::TableRef;
+use spanning::WIDTH;
 
-// Writes the matrix of one letter: its rows are the coefficients of each leading word followed by the letter.
-fn write_matrix<F: Field>(work: &mut [F], form: TableAt, letter: usize)
-    requires form_in_front { Lies 2048 form }
-    requires letter_of_form { (1 ≤ letter) × (letter ≤ form.letters) }
-    requires room { 8192 ≤ length work.old }
-    ensures matrix_written { MatrixFrom F.field F.value form letter form.states work.old work.new }
-    ensures all_else_unchanged { Frame (matrix_offset form.base form.states letter) (form.states * form.states) work.old work.new }
+// Writes the matrix of one letter, of n rows and columns: its rows are the coefficients of each leading word followed by the
+// letter.
+fn write_matrix<F: Field>(matrix: &mut [F], n: usize, letter: usize, coefficients: &[F])
+    requires small { (n ≤ 16) × (letter ≤ 6) }
+    requires square { length matrix.old ≡ n * n }
+    requires coefficients_within { 2048 ≤ length coefficients.now }
+    ensures matrix_written { SquareOf F.field F.value n (λ i. row_at F.field F.value coefficients.now (coefficients_at i letter)) matrix.new }
 {
-    let to = form.matrix(letter);
-    for i in 0..form.states {
-        move_block(
-            work,
-            COEFFICIENTS + (i * 128 + letter * 16),
-            to + i * form.states,
-            form.states,
-        );
+    // By the row's number: what a loop over chunks writes is not known.
+    for i in 0..n {
+        let from = i * COEFFICIENTS + letter * WIDTH;
+        matrix[i * n..i * n + n].copy_from_slice(&coefficients[from..from + n]);
     }
 }
 
-// Writes the matrices of all letters.
-fn write_matrices<F: Field>(work: &mut [F], form: TableAt)
-    requires form_in_front { Lies 2048 form }
-    requires room { 8192 ≤ length work.old }
-    ensures matrices_written { (a : ℕ) → 1 ≤ a → a ≤ form.letters → MatrixFrom F.field F.value form a form.states work.old work.new }
-    ensures all_else_unchanged { Frame (form.base + form.states) (form.letters * (form.states * form.states)) work.old work.new }
+// Writes the matrices of all letters, one after another.
+fn write_matrices<F: Field>(matrices: &mut [F], n: usize, letters: usize, coefficients: &[F])
+    requires small { (n ≤ 16) × (letters ≤ 6) }
+    requires whole { length matrices.old ≡ letters * (n * n) }
+    requires coefficients_within { 2048 ≤ length coefficients.now }
+    ensures matrices_written { (a : ℕ) → 1 ≤ a → a ≤ letters → (i : ℕ) → i < n → Agree n (square_at F.field F.value matrices.new ((a - 1) * (n * n)) n i) (row_at F.field F.value coefficients.now (coefficients_at i a)) }
 {
-    for a in 1..form.letters + 1 {
-        write_matrix(work, form, a);
+    for letter in 1..=letters {
+        let from = (letter - 1) * (n * n);
+        write_matrix(&mut matrices[from..from + n * n], n, letter, coefficients);
     }
 }
 
-// Writes the end column: what each leading word weighs under the table.
-fn write_end<F: Field>(work: &mut [F], shelf: &[F], table: TableAt, form: TableAt)
-    requires lies { Lies (length shelf.now) table }
-    requires form_in_front { Lies 2048 form }
-    requires room { 8192 ≤ length work.old }
-    ensures end_written { Written F.field F.value (end_offset form.base form.states form.letters) form.states (form_of F.field F.value (table_of F.field F.value shelf.now table) form.states work.old).end work.old work.new }
+// Writes to `to` what each leading word weighs: its row times the end column.
+fn write_end<F: Field>(to: &mut [F], rows: &[F], end: &[F])
+    requires short { (length to.old ≤ 16) × (length end.now ≤ 16) }
+    requires rows_within { 256 ≤ length rows.now }
+    ensures weights_written { RowOf F.field F.value (length to.old) (λ i. product F.field (length end.now) (row_at F.field F.value rows.now (vector_at i)) (at F.field F.value end.now)) to.new }
 {
-    let to = form.end();
-    let column = table.end();
-    for i in 0..form.states {
-        let x = dot(work, WORD_ROWS + i * 16, shelf, column, 1, table.states);
-        work[to + i] = x;
+    let n = end.len();
+    for (i, x) in to.iter_mut().enumerate() {
+        *x = dot(&rows[i * WIDTH..i * WIDTH + n], end, 0, 1);
     }
 }
 
-/// Writes, where `form` says, the table that the leading words, their coefficients and their weights are.
-pub fn write_form<F: Field>(work: &mut [F], shelf: &[F], table: TableAt, form: TableAt)
-    requires lies { Lies (length shelf.now) table }
-    requires form_in_front { Lies 2048 form }
-    requires same_letters { form.letters ≡ table.letters }
-    requires room { 8192 ≤ length work.old }
-    ensures form_written { TableWritten F.field F.value form.base (form_of F.field F.value (table_of F.field F.value shelf.now table) form.states work.old) work.old work.new }
+/// Writes the table that n leading words of `table`, their coefficients and their weights are.
+pub fn write_form<F: Field>(
+    form: &mut [F],
+    n: usize,
+    table: TableRef<'_, F>,
+    rows: &[F],
+    coefficients: &[F],
+)
+    requires few { n ≤ 16 }
+    requires whole { length form.old ≡ table_size n table.shape.letters }
+    requires rows_within { 256 ≤ length rows.now }
+    requires coefficients_within { 2048 ≤ length coefficients.now }
+    ensures form_written { SameTable (table_at F.field F.value form.new 0 n table.entry.shape.letters) (form_of F.field F.value (table_of F.field F.value table.entry) n rows.now coefficients.now) }
 {
-    unit_row(work, form.base, form.states, 0);
-    write_matrices(work, form);
-    write_end(work, shelf, table, form);
+    let (start, rest) = form.split_at_mut(n);
+    let (matrices, end) = rest.split_at_mut(table.letters() * (n * n));
+    unit_row(start, 0);
+    write_matrices(matrices, n, table.letters(), coefficients);
+    write_end(end, rows, table.end());
 }

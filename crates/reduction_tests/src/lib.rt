@@ -1,8 +1,7 @@
 //! Tests of reducing on worked examples, number for number, over several fields.
 #![tactic(auto)]
 
-ghost use Rattle.std.specs.Prelude.{ℕ, ◌≤◌, length};
-ghost use Rattle.rows.specs.Tables.{Lies};
+ghost use Rattle.std.specs.Prelude.{◌≤◌, length};
 
 #[cfg(test)]
 mod tests {
@@ -11,7 +10,7 @@ mod tests {
     use loose::Loose;
     use reduction::reduce;
     use residue::{Bit, Fermat};
-    use rows::layout::TableAt;
+    use rows::table::{Shape, TableRef};
     use std::process::Abort;
     use std::test::Fail;
 
@@ -19,21 +18,19 @@ mod tests {
     // several elements of one value shows others than the usual ones.
     fn lay<F: Field>(shelf: &mut [F], codes: &[u64]) -> Result<(), Fail> {
         let one = F::one();
-        for (i, code) in codes.iter().enumerate() {
-            let x = F::from_code(*code).ok_or("a code of the table is refused")?;
-            if i < shelf.len() {
-                shelf[i] = x.add(one.neg()).add(one);
-            }
+        for (x, code) in shelf.iter_mut().zip(codes) {
+            let y = F::from_code(*code).ok_or("a code of the table is refused")?;
+            *x = y.add(one.neg()).add(one);
         }
         Ok(())
     }
 
-    // Lays 1568 elements on the shelf, whose codes a linear generator gives.
+    // Lays elements all over the shelf, whose codes a linear generator gives.
     fn lay_generated<F: Field>(shelf: &mut [F]) -> Result<(), Fail> {
         let mut code = 1;
-        for i in 0..shelf.len() {
+        for x in shelf.iter_mut() {
             code = (code % 65537 * 75 + 74) % 65537;
-            shelf[i] = F::from_code(code % F::order()).ok_or("a generated code is refused")?;
+            *x = F::from_code(code % F::order()).ok_or("a generated code is refused")?;
         }
         Ok(())
     }
@@ -41,206 +38,156 @@ mod tests {
     // A sum over the codes of the first 1568 elements that depends on their order.
     fn code_sum<F: Field>(work: &[F]) -> u64 {
         let mut sum = 0;
-        for i in 0..1568usize {
-            if i < work.len() {
-                sum = (sum % 4294967291 * 65599 + work[i].code() % 65537 + 1) % 4294967291;
-            }
+        for x in work.iter().take(1568) {
+            sum = (sum % 4294967291 * 65599 + x.code() % 65537 + 1) % 4294967291;
         }
         sum
     }
 
-    // Checks the codes of the elements from 0 on.
-    fn check_codes<F: Field>(rt: &impl Abort, work: &[F], codes: &[u64]) {
-        for (i, code) in codes.iter().enumerate() {
-            if i < work.len() {
-                assert_eq!(rt; work[i].code(), *code);
-            }
-        }
-    }
-
     // Checks how many states the reduced form of the table on the shelf has, and its codes.
-    fn check_reduced<F: Field>(
+    fn check_laid<F: Field>(
         rt: &impl Abort,
         work: &mut [F],
         shelf: &[F],
-        table: TableAt,
+        shape: Shape,
         reduced: usize,
         codes: &[u64],
     )
-        requires lies { Lies (length shelf.now) table }
+        requires laid { 1568 ≤ length shelf.now }
         requires room { 8192 ≤ length work.old }
     {
-        let states = reduce(work, shelf, table);
+        let table = TableRef::new(&shelf[..shape.size()], shape);
+        let states = reduce(work, table);
         assert_eq!(rt; states, reduced);
-        check_codes(rt, work, codes);
+        for (x, code) in work.iter().zip(codes) {
+            assert_eq!(rt; x.code(), *code);
+        }
+    }
+
+    // Lays a table, given by codes, on the shelf, and checks how many states its reduced form has, and its codes.
+    fn check_reduced<F: Field>(
+        rt: &impl Abort,
+        work: &mut [F],
+        shelf: &mut [F],
+        shape: Shape,
+        table: &[u64],
+        reduced: usize,
+        codes: &[u64],
+    ) -> Result<(), Fail>
+        requires room { (8192 ≤ length work.old) × (1568 ≤ length shelf.old) }
+    {
+        lay(shelf, table)?;
+        check_laid(rt, work, shelf, shape, reduced, codes);
+        Ok(())
     }
 
     #[test]
     fn fibonacci_is_reduced_already(rt: HostRuntime) -> Result<(), Fail> {
-        let mut work = [Fermat::zero(); 8192];
-        let mut shelf = [Fermat::zero(); 1568];
         let table = [1, 0, 0, 1, 1, 1, 0, 1];
-        lay(&mut shelf, &table)?;
         check_reduced(
             &rt,
-            &mut work,
-            &shelf,
-            TableAt {
-                base: 0,
-                states: 2,
-                letters: 1,
-            },
+            &mut [Fermat::zero(); 8192],
+            &mut [Fermat::zero(); 1568],
+            Shape::new(2, 1),
+            &table,
             2,
             &table,
-        );
-        Ok(())
+        )
     }
 
     #[test]
     fn zero_end_column_leaves_no_states(rt: HostRuntime) -> Result<(), Fail> {
-        let mut work = [Fermat::zero(); 8192];
-        let mut shelf = [Fermat::zero(); 1568];
-        lay(&mut shelf, &[1, 0, 0, 1, 1, 1, 0, 0])?;
         check_reduced(
             &rt,
-            &mut work,
-            &shelf,
-            TableAt {
-                base: 0,
-                states: 2,
-                letters: 1,
-            },
+            &mut [Fermat::zero(); 8192],
+            &mut [Fermat::zero(); 1568],
+            Shape::new(2, 1),
+            &[1, 0, 0, 1, 1, 1, 0, 0],
             0,
             &[],
-        );
-        Ok(())
+        )
     }
 
     #[test]
-    fn no_states_stay_none(rt: HostRuntime) {
-        let mut work = [Fermat::zero(); 8192];
-        let shelf = [Fermat::zero(); 1568];
+    fn no_states_stay_none(rt: HostRuntime) -> Result<(), Fail> {
         check_reduced(
             &rt,
-            &mut work,
-            &shelf,
-            TableAt {
-                base: 0,
-                states: 0,
-                letters: 6,
-            },
+            &mut [Fermat::zero(); 8192],
+            &mut [Fermat::zero(); 1568],
+            Shape::new(0, 6),
+            &[],
             0,
             &[],
-        );
+        )
     }
 
     #[test]
     fn squares_of_fibonacci(rt: HostRuntime) -> Result<(), Fail> {
-        let mut work = [Fermat::zero(); 8192];
-        let mut shelf = [Fermat::zero(); 1568];
-        lay(
-            &mut shelf,
+        check_reduced(
+            &rt,
+            &mut [Fermat::zero(); 8192],
+            &mut [Fermat::zero(); 1568],
+            Shape::new(4, 1),
             &[
                 1, 0, 0, 0, 0, 0, 0, 1, 0, 0, 1, 1, 0, 1, 0, 1, 1, 1, 1, 1, 0, 0, 0, 1,
             ],
-        )?;
-        check_reduced(
-            &rt,
-            &mut work,
-            &shelf,
-            TableAt {
-                base: 0,
-                states: 4,
-                letters: 1,
-            },
             3,
             &[1, 0, 0, 0, 1, 0, 0, 0, 1, 65536, 2, 2, 0, 1, 1],
-        );
-        Ok(())
+        )
     }
 
     // State 5 is never reached, and state 4 never counts.
     #[test]
     fn bits(rt: HostRuntime) -> Result<(), Fail> {
-        let mut work = [Bit::zero(); 8192];
-        let mut shelf = [Bit::zero(); 1568];
-        lay(
-            &mut shelf,
+        check_reduced(
+            &rt,
+            &mut [Bit::zero(); 8192],
+            &mut [Bit::zero(); 1568],
+            Shape::new(5, 2),
             &[
                 0, 1, 0, 0, 0, 1, 1, 1, 0, 0, 0, 1, 1, 1, 0, 0, 1, 1, 1, 0, 0, 0, 0, 1, 0, 1, 0, 0,
                 0, 0, 0, 0, 0, 0, 0, 1, 0, 1, 1, 0, 0, 0, 1, 1, 0, 0, 0, 0, 1, 0, 0, 0, 1, 1, 1, 1,
                 1, 0, 0, 1,
             ],
-        )?;
-        check_reduced(
-            &rt,
-            &mut work,
-            &shelf,
-            TableAt {
-                base: 0,
-                states: 5,
-                letters: 2,
-            },
             3,
             &[
                 1, 0, 0, 0, 1, 0, 0, 0, 0, 1, 1, 1, 0, 0, 1, 1, 1, 1, 1, 1, 0, 1, 1, 1,
             ],
-        );
-        Ok(())
+        )
     }
 
     // State 4 is never reached, and state 3 never counts.
     #[test]
     fn bytes(rt: HostRuntime) -> Result<(), Fail> {
-        let mut work = [Byte::zero(); 8192];
-        let mut shelf = [Byte::zero(); 1568];
-        lay(
-            &mut shelf,
+        check_reduced(
+            &rt,
+            &mut [Byte::zero(); 8192],
+            &mut [Byte::zero(); 1568],
+            Shape::new(4, 2),
             &[
                 205, 31, 97, 0, 34, 106, 225, 0, 83, 56, 174, 0, 0, 0, 26, 0, 52, 0, 77, 51, 186,
                 13, 36, 0, 106, 192, 76, 0, 0, 0, 129, 0, 177, 186, 242, 62, 59, 249, 0, 238,
             ],
-        )?;
-        check_reduced(
-            &rt,
-            &mut work,
-            &shelf,
-            TableAt {
-                base: 0,
-                states: 4,
-                letters: 2,
-            },
             2,
             &[1, 0, 0, 1, 176, 26, 150, 185, 123, 236, 139, 205],
-        );
-        Ok(())
+        )
     }
 
     #[test]
     fn several_elements_of_one_value(rt: HostRuntime) -> Result<(), Fail> {
-        let mut work = [Loose::<65537>::zero(); 8192];
-        let mut shelf = [Loose::<65537>::zero(); 1568];
-        lay(
-            &mut shelf,
+        check_reduced(
+            &rt,
+            &mut [Loose::<65537>::zero(); 8192],
+            &mut [Loose::<65537>::zero(); 1568],
+            Shape::new(4, 3),
             &[
                 65536, 1, 0, 0, 1, 1, 0, 0, 0, 2, 0, 0, 0, 2, 0, 0, 2, 1, 65536, 1, 0, 2, 0, 0, 1,
                 2, 0, 0, 65536, 0, 1, 0, 0, 0, 2, 2, 2, 65536, 0, 0, 2, 2, 0, 0, 1, 2, 2, 0, 65536,
                 65536, 2, 2, 65536, 1, 1, 1,
             ],
-        )?;
-        check_reduced(
-            &rt,
-            &mut work,
-            &shelf,
-            TableAt {
-                base: 0,
-                states: 4,
-                letters: 3,
-            },
             2,
             &[1, 0, 1, 0, 1, 2, 0, 1, 2, 2, 3, 3, 65536, 1, 2, 65536],
-        );
-        Ok(())
+        )
     }
 
     // 16 states and 6 letters, with numbers of a linear generator, which are of low rank over its own field.
@@ -249,15 +196,11 @@ mod tests {
         let mut work = [Fermat::zero(); 8192];
         let mut shelf = [Fermat::zero(); 1568];
         lay_generated(&mut shelf)?;
-        check_reduced(
+        check_laid(
             &rt,
             &mut work,
             &shelf,
-            TableAt {
-                base: 0,
-                states: 16,
-                letters: 6,
-            },
+            Shape::new(16, 6),
             2,
             &[
                 1, 0, 0, 1, 56566, 46454, 13267, 37220, 6502, 43926, 40362, 16554, 23589, 17665,
@@ -274,18 +217,7 @@ mod tests {
         let mut work = [Byte::zero(); 8192];
         let mut shelf = [Byte::zero(); 1568];
         lay_generated(&mut shelf)?;
-        check_reduced(
-            &rt,
-            &mut work,
-            &shelf,
-            TableAt {
-                base: 0,
-                states: 16,
-                letters: 6,
-            },
-            16,
-            &[1, 0, 0, 0],
-        );
+        check_laid(&rt, &mut work, &shelf, Shape::new(16, 6), 16, &[1, 0, 0, 0]);
         assert_eq!(rt; code_sum(&work), 43353484);
         Ok(())
     }

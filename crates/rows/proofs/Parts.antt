@@ -1,5 +1,5 @@
 -- What a write to a part of a slice leaves in the whole. Assumes nothing.
-use Rattle.std.proofs.Common.{◌≡◌, ℕ, ◌+◌, ◌-◌, ◌≤◌, List, ◌++◌, length, take, drop, sym, refl, ap, ◌∙◌, subst, arith, rules}
+use Rattle.std.proofs.Common.{◌≡◌, ℕ, ◌+◌, ◌-◌, ◌<◌, ◌≤◌, List, ◌++◌, length, take, drop, sym, refl, ap, ◌∙◌, subst, arith, rules}
 use Rattle.std.proofs.lemmas.List.{places}
 use borrow.Rule.Slice.PartMut.{put_mid}
 use Rattle.field.specs.FiniteField.{FiniteField}
@@ -9,7 +9,7 @@ use Rattle.rows.specs.Seen.{RowOf, SquareOf}
 use Rattle.rows.proofs.Memory.{at_copied}
 use Rattle.rows.proofs.Sums.{dot_same}
 use Rattle.rows.proofs.Splits.{at_front, at_back}
-use Rattle.rows.proofs.Slices.{row_part}
+use Rattle.rows.proofs.Slices.{at_part, row_part}
 
 module _ {X : Type 0} where
   -- the n elements from a on are written
@@ -31,6 +31,10 @@ module _ {X : Type 0} where
       }
 
 module _ {F V : Type 0} (K : FiniteField V) (v : F → V) where
+  -- a value in the first d
+  pub at_first : (d : ℕ) (xs : List F) (i : ℕ) → i < d → at K v (take d xs) i ≡ at K v xs i
+  at_first d xs i l = subst (λ m. at K v (take m xs) i ≡ at K v xs i) {x = d - 0} {y = d} (omega arith) (at_part K v 0 d xs i (omega arith) ∙ ap (at K v xs) {x = 0 + i} {y = i} (omega arith))
+
   -- a row is written to a part
   pub written_part : (a n : ℕ) {x : ℕ → V} (xs ys : List F) → RowOf K v n x ys → a + n ≤ length xs → Written K v a n x xs (put_mid a n xs ys)
   written_part a n xs ys r h =
@@ -38,6 +42,10 @@ module _ {F V : Type 0} (K : FiniteField V) (v : F → V) where
         done = λ j l. at_copied K v ys (put_mid a n xs ys) j (a + j) (search (rules, r.len)) (search (rules, places, r.len)) (λ d. search (rules, places, r.len)) ∙ r.same j l;
         frame = frame_part a n xs ys r.len h;
       }
+
+  -- a row is written to the part from a to b
+  pub written_range : (a b n : ℕ) {x : ℕ → V} (xs ys : List F) → a + n ≡ b → b ≤ length xs → RowOf K v n x ys → Written K v a n x xs (put_mid a (b - a) xs ys)
+  written_range a b n {x} xs ys w h r = subst (λ k. Written K v a n x xs (put_mid a k xs ys)) {x = n} {y = b - a} (omega arith) (written_part a n xs ys r (omega arith))
 
   -- the same behind a front
   pub written_back : {a n : ℕ} {x : ℕ → V} (m : ℕ) (front : List F) {xs ys : List F} → length front ≡ m → a + n ≤ length xs → Written K v a n x xs ys → Written K v (m + a) n x (front ++ xs) (front ++ ys)

@@ -8,7 +8,7 @@ use Rattle.series.specs.Spans.{Span}
 use Rattle.series.specs.Families.{Of}
 use Rattle.series.specs.EliminationProgress.{Basis}
 use Rattle.series.specs.Tables.{Table, column, dot, Agree}
-use Rattle.series.proofs.SpanLaws.{span_span, span_member, span_more}
+use Rattle.series.proofs.SpanLaws.{span_same, span_span, span_member, span_more}
 use Rattle.series.proofs.Echelons.{echelon_in}
 use Rattle.series.proofs.Columns.{columns_covered}
 use Rattle.series.proofs.Bases.{basis_none}
@@ -22,11 +22,11 @@ use Rattle.elimination.proofs.Bases.{basis_same, basis_grow}
 use Rattle.elimination.proofs.Remainders.{nothing_same, new_same, new_one}
 use Rattle.elimination.proofs.Offsets.{entry_before}
 use Rattle.spanning.specs.Plan.{vector_at}
-use Rattle.spanning.specs.Views.{Spanned}
+use Rattle.spanning.specs.Views.{columns_of, Spanned}
 use Rattle.spanning.specs.Backward.{Covered, ColumnsHeld, ColumnDueBy}
 use Rattle.spanning.proofs.Pushes.{push_len, push_old, push_here, each_more}
 
-module _ {F V : Type 0} (K : FiniteField V) (v : F → V) (T : Table V) (few_states : T.states ≤ 16) (few_letters : T.letters ≤ 6) where
+module _ {F V : Type 0} (K : FiniteField V) (v : F → V) (T : Table V) (few_states : T.states ≤ 16) where
   abbrev n : ℕ
   n = T.states
 
@@ -49,21 +49,12 @@ module _ {F V : Type 0} (K : FiniteField V) (v : F → V) (T : Table V) (few_sta
   -- all was tried: the columns span those of all words
   pub due_done : (i count : ℕ) (ps : List ℕ) (cs es : List F) → i ≡ count → ColumnDueBy K v T i 1 count ps cs es → Spanned K v T count cs
   due_done i count ps cs es e g =
-      let few = g.few in
       record {
-        view = record {
-          columns = λ j. column K T (g.words j);
-          spanning = record {
-            covers =
-                columns_covered K T T.letters (Of count (λ j. column K T (g.words j))) g.held.end_covered
-                (λ a o y m. subst (λ z. Span K P (Of count (λ j. column K T (g.words j))) (λ i. dot K n (T.step a i) z)) (sym m.2) (let l = m.1 in g.past m.0 a (omega arith) o.0 o.1));
-            covered = λ j l. span_member K P (g.words j, g.held.overs j l, refl);
-          };
-          few_states = few_states;
-          few_letters = few_letters;
-          few_columns = omega arith;
-        };
-        held = g.held.columns;
+        covers = λ w o.
+            span_span K P (λ y m. span_same K P y (λ j l. ap (λ y. y j) m.2 ∙ sym (g.held.columns m.0 m.1 j l)) (span_member K P (m.0, m.1, refl)))
+            (columns_covered K T T.letters (Of count (λ j. column K T (g.words j))) g.held.end_covered
+            (λ a o y m. subst (λ z. Span K P (Of count (λ j. column K T (g.words j))) (λ i. dot K n (T.step a i) z)) (sym m.2) (let l = m.1 in g.past m.0 a (omega arith) o.0 o.1)) w o);
+        covered = λ j l. span_same K P (columns_of K v cs j) (g.held.columns j l) (span_member K P (g.words j, g.held.overs j l, refl));
       }
 
   -- a column of which the rows leave nothing

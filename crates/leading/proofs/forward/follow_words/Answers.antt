@@ -1,37 +1,21 @@
-use Rattle.std.proofs.Common.{◌≡◌, ◌∙◌, subst, arith}
-use Rattle.rows.specs.Tables.{table_of}
-use Rattle.leading.specs.Forward.{Walked}
+use Rattle.std.proofs.Common.{◌≡◌, length, subst, arith}
+use Rattle.leading.specs.Forward.{WalkedBy}
 use Rattle.leading.proofs.LeadingWords.{walked_trying, trying_walked}
 use Rattle.leading.proofs.forward.follow_words.Goals as goal
 
 pub try_letters-requires : goal.try_letters-requires
 try_letters-requires g c =
-    let K = g.F.Field.field in let v = g.F.Field.value in
-    let a = c.args in
-    let walked = c.loop-i.invariant.0 in
-    let len = c.loop-i.invariant.1 in
-    let found = c.loop-i.found in
-    record {
-      lies = c.requires.lies;
-      room = omega arith;
-      due = (walked.0, walked_trying K v (table_of K v a.shelf.now a.table) a.d walked.0 c.loop-i.i found.count found.pivots c.loop-i.work walked.1 (omega arith));
-    }
+    let l = c.loop-i in
+    record { due = walked_trying g.F.Field.field g.F.Field.value c.args.view.now l.i (length l.pivots.items) l.pivots.items l.rows l.tracked l.coefficients l.invariant (omega arith) }
 
 pub loop-i-preserved : goal.loop-i-preserved
 loop-i-preserved g c =
-    let K = g.F.Field.field in let v = g.F.Field.value in
-    let a = c.args in
-    let tried = c.try_letters in
-    let due = tried.ensures.all_tried in (
-      (due.0, trying_walked K v (table_of K v a.shelf.now a.table) a.d due.0 c.loop-i.i tried.new.found.count tried.new.found.pivots tried.new.work due.1),
-      tried.ensures.length_kept ∙ c.loop-i.invariant.1,
-    )
+    let t = c.try_letters in
+    trying_walked g.F.Field.field g.F.Field.value c.args.view.now c.loop-i.i (length t.new.pivots.items) t.new.pivots.items t.new.rows t.new.tracked t.new.coefficients t.ensures.all_tried
 
 pub returns : goal.returns
 returns g c =
-    let K = g.F.Field.field in let v = g.F.Field.value in
-    let a = c.args in
-    let walked = c.loop-i.invariant.0 in
-    let upto = walked.1.upto in
-    let e : c.loop-i.i ≡ c.loop-i.found.count = omega arith in
-    record { walked = subst (λ i. Walked K v (table_of K v a.shelf.now a.table) a.d i c.loop-i.found c.loop-i.work) e walked; length_kept = c.loop-i.invariant.1 }
+    let l = c.loop-i in
+    let upto = l.invariant.upto in
+    let e : l.i ≡ length l.pivots.items = omega arith in
+    record { walked = subst (λ i. WalkedBy g.F.Field.field g.F.Field.value c.args.view.now i (length l.pivots.items) l.pivots.items l.rows l.tracked l.coefficients) e l.invariant }

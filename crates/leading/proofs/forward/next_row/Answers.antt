@@ -1,49 +1,38 @@
-use Rattle.std.proofs.Common.{◌+◌, ◌-◌, ◌*◌, ◌≤◌, sym, refl, ap, ◌∙◌, inl, arith}
-use Rattle.series.specs.Tables.{move}
-use Rattle.series.proofs.Weights.{row_push}
-use Rattle.rows.specs.Memory.{row_at, square_at}
-use Rattle.rows.specs.Tables.{table_of}
-use Rattle.rows.proofs.Memory.{frame_below, frame_above}
+use Rattle.std.proofs.Common.{◌≡◌, ◌++◌, length, drop, take, sym, refl, ap, ◌∙◌, ◌+◌, ◌-◌, subst, arith}
+use Rattle.std.proofs.lemmas.List.{length-append}
+use Rattle.series.specs.Tables.{dot, move}
+use Rattle.rows.specs.Memory.{at, row_at, square_at, Written}
+use Rattle.rows.specs.Seen.{RowOf}
 use Rattle.rows.proofs.Sums.{dot_same}
-use Rattle.elimination.proofs.Offsets.{row_before}
-use Rattle.spanning.specs.Plan.{column_at, word_row_at, tracked_at, coefficients_from}
+use Rattle.rows.proofs.Parts.{row_product, row_before, written_behind}
+use Rattle.spanning.specs.Plan.{vector_at}
+use Rattle.spanning.specs.Views.{columns_of}
+use Rattle.leading.specs.Forward.{viewed}
 use Rattle.leading.proofs.forward.next_row.Goals as goal
-
-pub row_times_matrix-requires : goal.row_times_matrix-requires
-row_times_matrix-requires g c =
-    let a = c.args in
-    let t = a.table in
-    let is = c.matrix.ensures.is_matrix_offset in
-    record {
-      from_within = omega arith;
-      to_within = omega arith;
-      apart = inl (omega arith);
-      matrix_within = omega (arith, row_before (a.letter - 1) t.letters (t.states * t.states) (omega arith));
-    }
 
 pub returns : goal.returns
 returns g c =
     let K = g.F.Field.field in let v = g.F.Field.value in
     let a = c.args in
-    let n = a.table.states in
-    let T = table_of K v a.shelf.now a.table in
-    let ws = a.work.now in
-    let moved = c.row_times_matrix.ensures.row_written in
-    let seen = c.see_row.ensures in
-    let f = seen.all_else_unchanged in
-    let to = word_row_at a.count in
-    let few : a.count ≤ 16 = omega arith in
+    let view = a.view.now in
+    let T = viewed K v view in
+    let n = view.table.shape.states in
+    let rs = a.rows.now in
+    let split = c.split_at_mut-found in
+    let front = split.result.0.now in
+    let back = split.result.1.now in
+    let next = c.row_times_matrix.new.to in
+    let x = row_at K v rs (vector_at a.i) in
+    let told = c.states-n.ensures.told in
+    let short = view.table.shape.few_states in
+    let long : length front ≡ vector_at a.count = split.ensures.front_len in
+    let product = subst (λ m. let r = take (vector_at a.i + m - vector_at a.i) (drop (vector_at a.i) front) in RowOf K v (length r) (move K (length r) (square_at K v c.matrix.result.now 0 (length r)) (at K v r)) next) told c.row_times_matrix.ensures.product_written in
+    let made : RowOf K v n (move K n (T.step a.letter) x) next = row_product K v c.matrix.ensures.matrix_of_letter (row_before K v (vector_at a.count) n front back split.ensures.value long (vector_at a.i) (omega arith) (λ j l. refl)) product in
+    let len = ap length split.ensures.value ∙ length-append front back in
+    let w : Written K v (vector_at a.count) n (move K n (T.step a.letter) x) rs (front ++ (next ++ drop c.states-n.result back)) =
+    subst (λ m. Written K v (vector_at a.count) n (move K n (T.step a.letter) x) rs (front ++ (next ++ drop m back))) (sym told) (written_behind K v (vector_at a.count) n front back split.ensures.value long next (omega arith) made) in
     record {
-      all_else_unmoved = record {
-        len = f.len ∙ moved.frame.len;
-        low = λ j l. frame_below K v f j (omega arith) ∙ frame_below K v moved.frame j l;
-        mid = λ j l. frame_below K v f (tracked_at + j) (omega arith) ∙ frame_above K v moved.frame (tracked_at + j) (omega arith);
-        high = λ j l. frame_above K v f (coefficients_from + j) (omega arith) ∙ frame_above K v moved.frame (coefficients_from + j) (omega arith);
-      };
-      row_of_next_word = λ u e j l.
-          frame_below K v f (to + j) (omega arith) ∙ moved.done j l
-          ∙ ap (λ p. move K n (square_at K v a.shelf.now p n) (row_at K v ws (word_row_at a.i)) j) c.matrix.ensures.is_matrix_offset
-          ∙ dot_same K n e (λ i h. refl) ∙ sym (ap (λ f. f j) (row_push K T u a.letter));
-      products_written = λ j l. seen.products_written j l ∙ dot_same K n (λ i h. sym (frame_below K v f (to + i) (omega arith))) (λ i h. sym (frame_below K v f (column_at j + i) (omega arith)));
-      no_coefficients = seen.no_coefficients;
+      row_written = w;
+      products_written = λ j l. subst (λ m. at K v c.see_row.new.seen j ≡ dot K m (at K v next) (columns_of K v view.columns.now j)) made.len (c.see_row.ensures.products_written j l) ∙ dot_same K n (λ i h. made.same i h ∙ sym (w.done i h)) (λ i h. refl);
+      no_coefficients = c.see_row.ensures.no_coefficients;
     }

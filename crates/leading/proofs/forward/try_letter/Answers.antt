@@ -1,66 +1,80 @@
-use Rattle.std.proofs.Common.{◌≡◌, length, ◌∙◌, arith, rules}
-use Rattle.rows.specs.Tables.{table_of}
-use Rattle.leading.proofs.LeadingWords.{written_moved, tried_skip, tried_keep}
+use Rattle.std.proofs.Common.{◌≡◌, ◌+◌, ◌++◌, length, drop, ap, arith}
+use Rattle.std.proofs.lemmas.List.{length-take-le, length-append}
+use Rattle.rows.proofs.Slices.{length_part}
+use Rattle.spanning.specs.Plan.{coefficients_at}
+use Rattle.leading.proofs.LeadingWords.{stairs, ones, tried_skip, tried_keep}
 use Rattle.leading.proofs.forward.try_letter.Goals as goal
 
-pub next_row-requires : goal.next_row-requires
-next_row-requires g c =
-    let view = c.requires.due.0 in
-    let due = c.requires.due.1 in
-    record { lies = c.requires.lies; room = omega arith; small = (view.few_columns, (due.few, due.inside)); letter_of_table = (omega arith, omega arith) }
+pub slice_bounds-seen-end-2 : goal.slice_bounds-seen-end-2
+slice_bounds-seen-end-2 g c = let wide = length-take-le 32 c.split_at_mut-basis.result.1.now (omega (arith, c.requires.due.held.room.1.0, c.requires.due.few, c.args.view.now.few)) in omega arith
+
+pub next_row-requires-clause-wide : goal.next_row-requires-clause-wide
+next_row-requires-clause-wide g c = length-take-le 32 c.split_at_mut-basis.result.1.now (omega (arith, c.requires.due.held.room.1.0, c.requires.due.few, c.args.view.now.few))
 
 pub track_row-requires : goal.track_row-requires
 track_row-requires g c =
     let K = g.F.Field.field in let v = g.F.Field.value in
     let a = c.args in
-    let view = c.requires.due.0 in
-    let due = c.requires.due.1 in
-    let found = a.found.now in
-    let row = c.next_row.ensures in
-    let len = row.all_else_unmoved.len in
-    let m = written_moved K v (table_of K v a.shelf.now a.table) a.d view a.i a.letter found.count found.pivots a.work.now c.next_row.new.work due (omega arith) (omega arith) row.all_else_unmoved row.row_of_next_word row.products_written in
+    let ps = a.pivots.now.items in
+    let due = c.requires.due in
+    let few = due.few in
+    let split = c.split_at_mut-basis in
+    let next = c.next_row.ensures in
+    let wide = length-take-le 32 split.result.1.now (omega (arith, due.held.room.1.0, a.view.now.few)) in
+    let seen = c.next_row.auto.seen in
+    let read : length c.deref.result.now ≡ length ps = ap length c.deref.ensures.0 in
     record {
-      small = (view.few_columns, due.few);
-      room = omega arith;
-      echelon = m.held.basis.stairs;
-      ones_at_pivots = m.held.ones;
-      no_coefficients = row.no_coefficients;
+      small = (omega (arith, a.view.now.few), omega (arith, read));
+      wide = omega arith;
+      rows_within = omega (arith, read);
+      echelon = stairs K v a.view.now a.i a.letter c.len-count.result ps a.rows.now a.tracked.now a.coefficients.now c.next_row.new.rows split.result.0.now split.result.1.now c.next_row.new.seen due (omega arith) (omega arith) c.len-count.ensures.value split.ensures.value split.ensures.front_len next.row_written next.products_written c.deref.result.now c.deref.ensures.0;
+      ones_at_pivots = ones K v a.view.now a.i a.letter c.len-count.result ps a.rows.now a.tracked.now a.coefficients.now c.next_row.new.rows split.result.0.now split.result.1.now c.next_row.new.seen due (omega arith) (omega arith) c.len-count.ensures.value split.ensures.value split.ensures.front_len next.row_written next.products_written c.deref.result.now c.deref.ensures.0;
+      no_coefficients = next.no_coefficients;
     }
+
+pub negate_row-requires : goal.negate_row-requires
+negate_row-requires g c =
+    let a = c.args in
+    let due = c.requires.due in
+    let few = due.few in
+    let inside = due.inside in
+    let split = c.split_at_mut-basis in
+    let from = coefficients_at a.i a.letter in
+    let wide = length-take-le 32 split.result.1.now (omega (arith, due.held.room.1.0, a.view.now.few)) in
+    let seen = c.next_row.auto.seen in
+    let row = c.track_row.auto.row in
+    let to = length_part from (from + 16) a.coefficients.now (omega arith) (omega (arith, due.held.room.1.1, a.view.now.few, a.view.now.table.shape.few_letters)) in
+    let coefficients = length_part 16 32 (c.track_row.new.row ++ drop 32 split.result.1.now) (omega arith) (omega (arith, length-append c.track_row.new.row (drop 32 split.result.1.now))) in
+    record { as_long = omega arith }
 
 pub returns-in-None : goal.returns-in-None
 returns-in-None g c =
-    let K = g.F.Field.field in let v = g.F.Field.value in
     let a = c.args in
-    let view = c.requires.due.0 in
-    let found = a.found.now in
-    let row = c.next_row.ensures in
-    let tracked = c.in-None.ensures in
-    let w = c.negate_row.ensures.opposites_written in
+    let due = c.requires.due in
+    let split = c.split_at_mut-basis in
+    let next = c.next_row.ensures in
+    let wide = length-take-le 32 split.result.1.now (omega (arith, due.held.room.1.0, due.few, a.view.now.few)) in
+    let seen = c.next_row.auto.seen in
+    let row = c.track_row.auto.row in
     record {
-      next_due = (
-        view,
-        tried_skip K v (table_of K v a.shelf.now a.table) a.d view a.i a.letter found.count found.pivots a.work.now c.next_row.new.work c.requires.due.1 (omega arith) (omega arith) row.all_else_unmoved row.row_of_next_word row.products_written
-            c.track_row.new.work c.negate_row.new.work tracked.all_else_unchanged tracked.combination_or_new_row w,
-      );
-      length_kept = w.frame.len ∙ tracked.all_else_unchanged.len ∙ row.all_else_unmoved.len;
+      next_due =
+          tried_skip g.F.Field.field g.F.Field.value a.view.now a.i a.letter c.len-count.result a.pivots.now.items a.rows.now a.tracked.now a.coefficients.now c.next_row.new.rows split.result.0.now split.result.1.now c.next_row.new.seen due (omega arith) (omega arith)
+          c.len-count.ensures.value split.ensures.value split.ensures.front_len next.row_written next.products_written c.track_row.new.row c.negate_row.new.to (omega arith)
+          c.deref.result.now c.deref.ensures.0 c.in-None.ensures.combination_or_new_row c.negate_row.ensures.opposites_written;
     }
 
 pub returns-in-Some : goal.returns-in-Some
 returns-in-Some g c =
-    let K = g.F.Field.field in let v = g.F.Field.value in
     let a = c.args in
-    let view = c.requires.due.0 in
-    let found = a.found.now in
-    let row = c.next_row.ensures in
-    let tracked = c.in-Some.ensures in
-    let w = c.unit_row.ensures.unit_written in
-    let pushed = c.push.ensures in
-    let len : length found.pivots ≡ 32 = search rules in
+    let due = c.requires.due in
+    let split = c.split_at_mut-basis in
+    let next = c.next_row.ensures in
+    let wide = length-take-le 32 split.result.1.now (omega (arith, due.held.room.1.0, due.few, a.view.now.few)) in
+    let seen = c.next_row.auto.seen in
+    let row = c.track_row.auto.row in
     record {
-      next_due = (
-        view,
-        tried_keep K v (table_of K v a.shelf.now a.table) a.d view a.i a.letter found.count found.pivots a.work.now c.next_row.new.work c.requires.due.1 (omega arith) (omega arith) row.all_else_unmoved row.row_of_next_word row.products_written
-            c.in-Some.pivot c.push.new.self.count c.push.new.self.pivots c.track_row.new.work c.unit_row.new.work tracked.all_else_unchanged tracked.combination_or_new_row w len pushed.counted pushed.pivot_noted,
-      );
-      length_kept = w.frame.len ∙ tracked.all_else_unchanged.len ∙ row.all_else_unmoved.len;
+      next_due =
+          tried_keep g.F.Field.field g.F.Field.value a.view.now a.i a.letter c.len-count.result a.pivots.now.items a.rows.now a.tracked.now a.coefficients.now c.next_row.new.rows split.result.0.now split.result.1.now c.next_row.new.seen due (omega arith) (omega arith)
+          c.len-count.ensures.value split.ensures.value split.ensures.front_len next.row_written next.products_written c.track_row.new.row c.unit_row.new.to (omega arith)
+          c.in-Some.pivot c.deref.result.now c.push.new.self.items c.deref.ensures.0 c.push.ensures.items c.in-Some.ensures.combination_or_new_row c.unit_row.ensures.unit_written;
     }

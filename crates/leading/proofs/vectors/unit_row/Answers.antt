@@ -1,15 +1,18 @@
-use Rattle.std.proofs.Common.{sym, arith}
-use Rattle.rows.proofs.Memory.{written_same}
-use Rattle.leading.proofs.UnitRows.{unit_other, unit_written}
+use Rattle.std.proofs.Common.{◌≡◌, sym, ap, ◌∙◌, arith}
+use Rattle.rows.proofs.Slices.{filled_more}
+use Rattle.leading.specs.Units.{unit}
+use Rattle.leading.proofs.UnitRows.{unit_here, unit_other}
 use Rattle.leading.proofs.vectors.unit_row.Goals as goal
+use Rattle.leading.proofs.vectors.unit_row.Goals.{then-j-place, else-j-place}
 
-pub returns-then-place-n : goal.returns-then-place-n
-returns-then-place-n g c =
+pub loop-j-preserved : goal.loop-j-preserved
+loop-j-preserved g c =
     let K = g.F.Field.field in let v = g.F.Field.value in
-    let a = c.args in
-    record { unit_written = unit_written K v a.to a.n a.place a.work.now c.clear_block.new.work c.one.result (omega arith) (omega arith) c.one.ensures.is_one c.clear_block.ensures.zeros_written }
-
-pub returns-else-place-n : goal.returns-else-place-n
-returns-else-place-n g c =
-    let K = g.F.Field.field in let v = g.F.Field.value in
-    record { unit_written = written_same K v c.clear_block.ensures.zeros_written (λ j l. sym (unit_other K c.args.place j (omega arith))) }
+    let j = c.loop-j.j in
+    let place = c.args.place in
+    let is : v c.if-j-place.x ≡ unit K place j =
+    elim c.if-j-place.branch [
+      | then-j-place w ↦ ap v w.x-is ∙ w.one.ensures.is_one ∙ sym (ap (unit K place) {x = j} {y = place} (omega arith) ∙ unit_here K place)
+      | else-j-place w ↦ ap v w.x-is ∙ w.zero.ensures.is_zero ∙ sym (unit_other K place j (omega arith))
+    ] in
+    filled_more K v c.if-j-place.x c.loop-j.invariant (omega arith) is

@@ -1,9 +1,19 @@
 use Rattle.std.proofs.Common.{arith}
+use Rattle.rows.specs.Memory.{row_at}
+use Rattle.spanning.specs.Plan.{coefficients_at}
 use Rattle.reduction.proofs.Forms.{matrices_more}
 use Rattle.reduction.proofs.result.write_matrices.Goals as goal
 
-pub loop-a-preserved : goal.loop-a-preserved
-loop-a-preserved g c =
+pub loop-letter-preserved : goal.loop-letter-preserved
+loop-letter-preserved g c =
+    let K = g.F.Field.field in let v = g.F.Field.value in
     let a = c.args in
-    let w = c.write_matrix.ensures in
-    matrices_more g.F.Field.field g.F.Field.value a.form c.requires.form_in_front c.loop-a.a a.work.now c.loop-a.work c.write_matrix.new.work (omega arith) (omega arith) c.loop-a.invariant.0 c.loop-a.invariant.1 w.matrix_written w.all_else_unchanged
+    matrices_more K v a.n c.loop-letter.letter a.letters (λ b i. row_at K v a.coefficients.now (coefficients_at i b)) c.loop-letter.matrices c.write_matrix.new.matrix (omega arith) (omega arith) (omega arith) c.write_matrix.ensures.matrix_written c.loop-letter.invariant
+
+pub returns-2 : goal.returns-2
+returns-2 g c =
+    let K = g.F.Field.field in let v = g.F.Field.value in
+    let a = c.args in
+    record {
+      matrices_written = λ b h l. matrices_more K v a.n c.loop-letter.letter a.letters (λ b i. row_at K v a.coefficients.now (coefficients_at i b)) c.loop-letter.matrices c.write_matrix.new.matrix (omega arith) (omega arith) (omega arith) c.write_matrix.ensures.matrix_written c.loop-letter.invariant b h (omega arith);
+    }

@@ -1,10 +1,10 @@
-use Rattle.std.proofs.Common.{◌*◌}
-use Rattle.rows.specs.Memory.{Frame}
-use Rattle.rows.specs.Layout.{matrix_offset}
-use Rattle.reduction.specs.Result.{MatrixFrom}
+use Rattle.std.proofs.Common.{ℕ, ◌<◌}
+use Rattle.series.specs.Tables.{Agree}
+use Rattle.rows.specs.Memory.{row_at, square_at}
+use Rattle.spanning.specs.Plan.{coefficients_at}
 use Rattle.reduction.proofs.result.write_matrix.Given as goal
 
 abbrev pub invariant-loop-i : goal.invariant-loop-i
 invariant-loop-i g l =
-    MatrixFrom g.F.Field.field g.F.Field.value l.form l.letter l.i l.initial.work l.work
-    × Frame (matrix_offset l.form.base l.form.states l.letter) (l.i * l.form.states) l.initial.work l.work
+    let K = g.F.Field.field in let v = g.F.Field.value in
+    (b : ℕ) → b < l.i → Agree l.n (square_at K v l.matrix 0 l.n b) (row_at K v l.coefficients (coefficients_at b l.letter))

@@ -8,7 +8,7 @@ loop-i-preserved g c =
     let K = g.F.Field.field in let v = g.F.Field.value in
     let t = c.args.table in
     let tried = c.try_columns in
-    due_next K v (table_of K v t) t.shape.few_states t.shape.few_letters c.loop-i.i (length tried.new.pivots.items) tried.new.pivots.items tried.new.columns tried.new.echelon tried.ensures.word_found tried.ensures.all_tried
+    due_next K v (table_of K v t) t.shape.few_states c.loop-i.i (length tried.new.pivots.items) tried.new.pivots.items tried.new.columns tried.new.echelon tried.ensures.word_found tried.ensures.all_tried
 
 pub returns-clause-spanned : goal.returns-clause-spanned
 returns-clause-spanned g c =
@@ -17,4 +17,4 @@ returns-clause-spanned g c =
     let due = c.loop-i.invariant in
     let upto = due.upto in
     let ps = c.loop-i.pivots.items in
-    due_done K v (table_of K v t) t.shape.few_states t.shape.few_letters c.loop-i.i (length ps) ps c.loop-i.columns c.loop-i.echelon (omega arith) due
+    due_done K v (table_of K v t) t.shape.few_states c.loop-i.i (length ps) ps c.loop-i.columns c.loop-i.echelon (omega arith) due

@@ -9,7 +9,7 @@ returns-in-Some-clause-next_due g c =
     let t = a.table in
     let split = c.split_at_mut-found in
     let kept = c.in-Some.ensures in
-    tried_keep g.F.Field.field g.F.Field.value (table_of g.F.Field.field g.F.Field.value t) t.shape.few_states t.shape.few_letters a.i a.letter c.states-n.result c.states-n.ensures.told a.pivots.now.items a.columns.now a.echelon.now split.result.0.now split.result.1.now
+    tried_keep g.F.Field.field g.F.Field.value (table_of g.F.Field.field g.F.Field.value t) t.shape.few_states a.i a.letter c.states-n.result c.states-n.ensures.told a.pivots.now.items a.columns.now a.echelon.now split.result.0.now split.result.1.now
     c.matrix.result.now c.matrix_times_column.new.to c.requires.due c.requires.word_found (omega arith) (omega arith) split.ensures.value (omega arith) c.matrix.ensures.matrix_of_letter c.matrix_times_column.ensures.product_written
     c.in-Some.pivot c.deref.result.now c.push.new.self.items c.keep_row.new.echelon c.deref.ensures.0 c.push.ensures.items (kept.all_else_unchanged, kept.nothing_left_or_new_row)
 
@@ -19,6 +19,6 @@ returns-in_default-clause-next_due g c =
     let t = a.table in
     let split = c.split_at_mut-found in
     let kept = c.in_default.ensures in
-    tried_skip g.F.Field.field g.F.Field.value (table_of g.F.Field.field g.F.Field.value t) t.shape.few_states t.shape.few_letters a.i a.letter c.states-n.result c.states-n.ensures.told a.pivots.now.items a.columns.now a.echelon.now split.result.0.now split.result.1.now
+    tried_skip g.F.Field.field g.F.Field.value (table_of g.F.Field.field g.F.Field.value t) t.shape.few_states a.i a.letter c.states-n.result c.states-n.ensures.told a.pivots.now.items a.columns.now a.echelon.now split.result.0.now split.result.1.now
     c.matrix.result.now c.matrix_times_column.new.to c.requires.due c.requires.word_found (omega arith) (omega arith) split.ensures.value (omega arith) c.matrix.ensures.matrix_of_letter c.matrix_times_column.ensures.product_written
     c.deref.result.now c.keep_row.new.echelon c.deref.ensures.0 (kept.all_else_unchanged, kept.nothing_left_or_new_row)

@@ -12,7 +12,7 @@ returns-in-Some g c =
     let kept = c.in-Some.ensures in
     record {
       due =
-          end_keep K v T a.table.shape.few_states a.table.shape.few_letters c.states.result c.states.ensures.told a.columns.now a.echelon.now c.copy_from_slice.new.self c.requires.room made
+          end_keep K v T a.table.shape.few_states c.states.result c.states.ensures.told a.columns.now a.echelon.now c.copy_from_slice.new.self c.requires.room made
           c.in-Some.pivot c.deref.result.now a.pivots.now.items c.push.new.self.items c.keep_row.new.echelon (c.deref.ensures.0 ∙ c.requires.none_found) c.requires.none_found c.push.ensures.items
           (kept.all_else_unchanged, kept.nothing_left_or_new_row);
     }
@@ -26,6 +26,6 @@ returns-in_default g c =
     let kept = c.in_default.ensures in
     record {
       due =
-          end_skip K v T a.table.shape.few_states a.table.shape.few_letters c.states.result c.states.ensures.told a.columns.now a.echelon.now c.copy_from_slice.new.self c.requires.room made
+          end_skip K v T a.table.shape.few_states c.states.result c.states.ensures.told a.columns.now a.echelon.now c.copy_from_slice.new.self c.requires.room made
           c.deref.result.now a.pivots.now.items c.keep_row.new.echelon (c.deref.ensures.0 ∙ c.requires.none_found) c.requires.none_found (kept.all_else_unchanged, kept.nothing_left_or_new_row);
     }
