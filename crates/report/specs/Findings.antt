@@ -1,13 +1,9 @@
 -- What was found of two texts, and the line that tells it. Assumes nothing.
-use Rattle.std.specs.Prelude.{◌≡◌, ℕ, zero, suc, ◌^◌, ◌<◌, ◌≤◌, List, ◌++◌, length, drop, slice_index}
+use Rattle.std.specs.Prelude.{◌≡◌, ℕ, zero, suc, ◌^◌, ◌<◌, ◌≤◌, List, ◌++◌, length, drop}
 use Rattle.book.specs.declared.verdict.Verdict.{Verdict}
 use Rattle.report.specs.declared.finding.Finding.{Finding}
 use Rattle.report.specs.declared.finding.Finding.TheVariants.{Refused, Compared}
 use Rattle.report.specs.Reports.{alike_line, different_line, refused_line}
-
--- every number has at most ten digits
-abbrev pub TenDigits : List ℕ → Type 0
-TenDigits vs = (i : ℕ) → i < length vs → slice_index vs i < 10 ^ 10
 
 -- the line of a verdict, by its kind
 abbrev pub verdict_line : ℕ → Verdict → List ℕ
