@@ -17,7 +17,7 @@ use Rattle.columns.specs.declared.line.Kind.TheVariants as kind
 use Rattle.columns.specs.declared.line.Due.{Due}
 use Rattle.columns.specs.declared.line.Due.TheVariants.{Table, Start, Matrix, End, Close, Nothing}
 use Rattle.faults.specs.declared.ColumnFault.{ColumnFault}
-use Rattle.faults.specs.declared.LineFault.TheVariants.{Column, Ends, Unexpected, Unended}
+use Rattle.faults.specs.declared.LineFault.TheVariants.{Column, Ends, Unexpected}
 
 -- what holds where a `?` returns
 pub exits : {T E : Type 0} (r : Result T E) (e : E) (P : T → Type 0) (Q : E → Type 0) → IsErrAnd r (λ y. y ≡ e) → Q e → MatchResult r P Q
@@ -63,17 +63,10 @@ first_of : (b : ℕ) (rest : List ℕ) → 0 < length rest → take (length (tak
 first_of b [] some e = absurd (omega arith)
 first_of b (x ∷ xs) some e = sym (ap (λ l. get_or l 0 0) e)
 
-module _ (p : Position) (x : ℕ) (bs rest : List ℕ) (is : rest ≡ x ∷ bs) where
-  other_first : (item : Item) (b : ℕ) → (Opens item (take 1 rest) → take (length (take 1 rest)) (b ∷ []) ≡ take 1 rest) → (x ≡ b → ⊥) → Halts item p rest (named item p)
-  other_first item b opens other =
-      let some : 0 < length rest = omega (arith, ap length is) in
-      breaks_first item p rest some (λ o. other (sym (ap (λ l. get_or l 0 0) is) ∙ first_of b rest some (opens o)))
-
-  pub no_head : (b : ℕ) → (x ≡ b → ⊥) → Halts (first b) p rest (Unexpected p)
-  no_head b = other_first (first b) b (λ o. o)
-
-  pub no_close : (x ≡ 10 → ⊥) → Halts close p rest (Unended p)
-  no_close = other_first close 10 (λ o. o)
+pub no_head : (p : Position) (x : ℕ) (bs rest : List ℕ) → rest ≡ x ∷ bs → (b : ℕ) → (x ≡ b → ⊥) → Halts (first b) p rest (Unexpected p)
+no_head p x bs rest is b other =
+    let some : 0 < length rest = omega (arith, ap length is) in
+    breaks_first (first b) p rest some (λ o. other (sym (ap (λ l. get_or l 0 0) is) ∙ first_of b rest some o))
 
 -- a byte that begins no kind of line begins none that is due
 pub no_kind : (b : ℕ) → b < 256 → ((k : Kind) → letter k ≡ b → ⊥) → (due : Due) → b ≡ due_letter due → ⊥

@@ -1,4 +1,3 @@
-mod Lines
 mod Small
 mod SameVerdicts
 mod Loads

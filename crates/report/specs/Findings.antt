@@ -1,15 +1,11 @@
 -- What was found of two texts, and the line that tells it. Assumes nothing.
-use Rattle.std.specs.Prelude.{◌≡◌, ℕ, ◌^◌, ◌<◌, ◌≤◌, List, ◌++◌, length, drop, slice_index, Ok, Err, Result}
+use Rattle.std.specs.Prelude.{◌≡◌, ℕ, ◌^◌, ◌<◌, ◌≤◌, List, ◌++◌, length, drop, Ok, Err, Result}
 use Rattle.book.specs.declared.verdict.Kind.{Kind}
 use Rattle.book.specs.declared.verdict.Kind.TheVariants as kinds
 use Rattle.book.specs.declared.verdict.Verdict.{Verdict}
 use Rattle.report.specs.declared.finding.Rejection.{Rejection}
 use Rattle.report.specs.declared.finding.Rejection.TheVariants.{First, Second, Together}
 use Rattle.report.specs.Reports.{alike_line, different_line, refused_line}
-
--- every number has at most ten digits
-abbrev pub TenDigits : List ℕ → Type 0
-TenDigits vs = (i : ℕ) → i < length vs → slice_index vs i < 10 ^ 10
 
 -- the line of a verdict, by its kind
 abbrev pub verdict_line : Kind → Verdict → List ℕ

@@ -1,6 +1,5 @@
 -- Sizes within the limits. Assumes nothing.
-use Rattle.std.proofs.Common.{◌≡◌, ℕ, ◌+◌, ◌*◌, ◌<◌, ◌≤◌, ap, ⊎_elim, mul_assoc, mul-le-mul, mul-zero, arith}
-use Rattle.std.proofs.lemmas.Bool.{cases_eq}
+use Rattle.std.proofs.Common.{◌≡◌, ℕ, ◌+◌, ◌*◌, ◌≤◌, mul_assoc, mul-le-mul, arith}
 use Rattle.rows.specs.Layout.{table_size}
 use Rattle.rows.specs.declared.table.Shape.{Shape}
 use Rattle.text.specs.Texts.{Limits, text_size}
@@ -11,9 +10,6 @@ most n k l =
     let a : k * n ≤ 6 * 16 = mul-le-mul l.letters l.states in
     let b : k * n * n ≤ 96 * 16 = mul-le-mul {n₂ = 96} a l.states in
     (a, b)
-
-pub some_state : (n k : ℕ) → 0 < k * n → 0 < n
-some_state n k h = ⊎_elim (λ (e : n ≡ 0). absurd (omega (arith, ap (λ m. k * m) e, mul-zero k))) (λ (d : n ≡ 0 → ⊥). omega arith) (cases_eq n 0)
 
 -- the parts of a table take all its room
 pub parts_fit : (n k len : ℕ) → len ≡ table_size n k → n + k * n * n + n ≡ len
