@@ -1,7 +1,7 @@
 -- The first columns of a number, one by one. Assumes nothing.
-use Rattle.std.proofs.Common.{◌≡◌, ℕ, zero, suc, ◌+◌, ◌-◌, ◌*◌, ◌/◌, ◌%◌, ◌^◌, ◌<◌, ◌≤◌, cond, eqb, leb, ◌⊎◌, List, [], ◌∷◌, ◌++◌, length, get_or, take, set, replicate, decimal, sym, refl, ap, ◌∙◌, subst, inl, inr, ⊎_elim, append_assoc, add-zero, add-suc, lt_of_mul-lt-mul_right, mul-lt-mul_of_pos_right, pow-suc, mul_right_comm, div-mul-le_self, div-one, mul-div_cancel, add-one, arith, pow-add}
+use Rattle.std.proofs.Common.{◌≡◌, ℕ, zero, suc, ◌+◌, ◌-◌, ◌*◌, ◌/◌, ◌%◌, ◌^◌, ◌<◌, ◌≤◌, cond, eqb, leb, ◌⊎◌, List, [], ◌∷◌, ◌++◌, length, get_or, take, drop, set, replicate, decimal, sym, refl, ap, ◌∙◌, subst, inl, inr, ⊎_elim, append_assoc, add-zero, add-suc, lt_of_mul-lt-mul_right, mul-lt-mul_of_pos_right, pow-suc, mul_right_comm, div-mul-le_self, div-one, mul-div_cancel, add-one, arith, pow-add}
 use native.Mathlib.Nat.{pow-zero, div-div-eq-div-mul, pow-succ', pow-le-pow_right}
-use Rattle.std.proofs.lemmas.List.{length_push, replicate_more, take-append-le, take_all, take_at, get_or_at, take_more, take_more_set, length-take-le}
+use Rattle.std.proofs.lemmas.List.{length_push, replicate_more, take-append-le, take_all, take_at, get_or_at, take_more, length-take-le, drop-set, drop_all, append-nil}
 use Rattle.std.proofs.lemmas.Fmt.{decimal_digit, decimal_step}
 use Rattle.std.proofs.lemmas.Bool.{cases_eq, cases_lt, le-leb, lt-leb, ne_eqb}
 use Rattle.columns.specs.Numbers.{number, Begins, Broken, Holds}
@@ -221,14 +221,16 @@ held bs i v sofar e h =
       whole = λ n. all ∙ ap (λ m. begun m v) (e ∙ n) ∙ sym (number_begun v sofar.small);
     }
 
--- one more column is written
-pub put_more : (i v b : ℕ) (cols : List ℕ) → i < 11 → i < length cols → b ≡ cell (suc i) (v / 10 ^ (10 - i)) → take i cols ≡ begun i (v / 10 ^ (11 - i)) → take (i + 1) (set cols i b) ≡ begun (i + 1) (v / 10 ^ (11 - (i + 1)))
-put_more i v b cols within on is sofar =
-    let more : 11 - i ≡ suc (10 - i) = omega arith in
-    let less : 11 - (i + 1) ≡ 10 - i = omega arith in
-    rw (take_more_set cols i b on, less, add-one, begun_step, div-div-eq-div-mul, ← pow-suc, ← more, sofar, is) refl
+-- one more column, from the last to the first
+pub put_more : (i rest b : ℕ) (cols whole : List ℕ) → 0 < i → i ≤ length cols → b ≡ cell i rest → whole ≡ begun i rest ++ drop i cols → whole ≡ begun (i - 1) (rest / 10) ++ drop (i - 1) (set cols (i - 1) b)
+put_more zero rest b cols whole some fits e w = absurd (omega arith)
+put_more (suc j) rest b cols whole some fits e w =
+    let back : suc j - 1 ≡ j = omega arith in
+    rw (back, drop-set cols j b fits, add-one, e) (w ∙ ap (λ l. l ++ drop (suc j) cols) (begun_step j rest) ∙ append_assoc (begun j (rest / 10)) (cell (suc j) rest ∷ []) (drop (suc j) cols))
 
-pub put_all : (v i : ℕ) (cols : List ℕ) → v < 10 ^ 10 → i ≡ 11 → length cols ≡ 11 → take i cols ≡ begun i (v / 10 ^ (11 - i)) → cols ≡ number v
-put_all v i cols small e long sofar =
-    let none : 11 - i ≡ 0 = omega arith in
-    sym (take_all i cols (omega arith)) ∙ sofar ∙ (λ k. begun (e k) (v / 10 ^ none k)) ∙ ap (begun 11) (ap (λ m. v / m) (pow-zero 10) ∙ div-one v) ∙ sym (number_begun v small)
+pub put_none : (v : ℕ) (cols : List ℕ) → length cols ≡ 11 → begun 11 v ≡ begun 11 v ++ drop 11 cols
+put_none v cols e = sym (ap (λ l. begun 11 v ++ l) (drop_all 11 cols (omega arith)) ∙ append-nil (begun 11 v))
+
+pub put_all : (v rest i : ℕ) (cols : List ℕ) → v < 10 ^ 10 → i ≡ 0 → begun 11 v ≡ begun i rest ++ drop i cols → cols ≡ number v
+unfolding begun
+put_all v rest i cols h e w = sym (number_begun v h ∙ w ∙ ap (λ m. begun m rest ++ drop m cols) e)

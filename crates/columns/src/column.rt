@@ -40,14 +40,16 @@ pub fn put_number(columns: &mut [u8], value: u64)
     requires ten_digits { value < 10 ^ 10 }
     ensures written { columns.new ≡ number value }
 {
-    for (i, column) in columns.iter_mut().enumerate() {
-        // the number that the columns up to this one hold
-        let front = value / 10u64.pow((LAST - i) as u32);
-        *column = if front == 0 && i < LAST {
+    let mut rest = value;
+    // backwards by an index: an adapter of `iter_mut` loses the bytes, and from the front each column costs a division by
+    // a power of ten, six times as long
+    for i in (0..11).rev() {
+        columns[i] = if rest == 0 && i < 10 {
             b' '
         } else {
-            b'0' + (front % 10) as u8
+            b'0' + (rest % 10) as u8
         };
+        rest /= 10;
     }
 }
 
