@@ -8,3 +8,4 @@ mod Verdicts
 mod Cleared
 mod Fronts
 mod Runs
+pub mod Kept

@@ -1,7 +1,7 @@
 -- The checks of a call that reads two tables. Assumes nothing.
 use Rattle.std.proofs.Common.{◌≡◌, ℕ, ◌<◌, ◌≤◌, ◌≢◌, ◌⊎◌, [], ◌∷◌, length, refl, inl, inr, arith}
 use Rattle.field.specs.FiniteField.{FiniteField}
-use Rattle.rows.specs.declared.layout.TableAt.{TableAt}
+use Rattle.rows.specs.declared.table.Shape.{Shape}
 use Rattle.book.specs.Shelves.{empty, filled, State, Place, entry, letters_of}
 use Rattle.book.specs.Calls.{Call, sum, multiply, compare, Among}
 use Rattle.book.specs.Refusals.{refusal_number}
@@ -50,6 +50,6 @@ module _ {V : Type 0} (K : FiniteField V) {F : Type 0} (s : State F) (c : Call) 
       pair_empty = unfilled K s c (p ∷ q ∷ []) (to ∷ []) 8192 (pairs_read pair) (within_two x y p q e d) (within_one z to h) room.0 room.1
 
       -- both tables are there
-      pub pair_past : (l r : TableAt) → entry s.shelf p ≡ filled l.states l.letters → entry s.shelf q ≡ filled r.states r.letters → Passed K s c 4
+      pub pair_past : (l r : Shape) → entry s.shelf p ≡ filled l.states l.letters → entry s.shelf q ≡ filled r.states r.letters → Passed K s c 4
       pair_past l r a b = past_4 K s c (p ∷ q ∷ []) (to ∷ []) 8192 (pairs_read pair) (within_two x y p q e d) (within_one z to h) room.0 room.1
           (of_two (λ o. entry s.shelf o ≢ empty) (not_empty (entry s.shelf p) l.states l.letters a) (not_empty (entry s.shelf q) r.states r.letters b))

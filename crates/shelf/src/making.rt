@@ -45,9 +45,9 @@ impl Directory {
     {
         let (table, to) = self.one_table(shelf, work, place, to)?;
         let shape = table.shape();
-        let made = &mut work[0..shape.size()];
-        turning::turn(table, made);
-        self.keep(shelf, TableRef::new(made, shape), to);
+        let turned = &mut work[0..shape.size()];
+        turning::turn(table, turned);
+        self.keep(shelf, TableRef::new(turned, shape), to);
         Ok(())
     }
 
@@ -64,7 +64,8 @@ impl Directory {
         let (table, to) = self.one_table(shelf, work, place, to)?;
         let letters = table.letters();
         let states = reduction::reduce(work, table);
-        self.keep(shelf, TableRef::new(work, Shape::new(states, letters)), to);
+        let shape = Shape::new(states, letters);
+        self.keep(shelf, TableRef::new(work, shape), to);
         Ok(())
     }
 
@@ -84,9 +85,9 @@ impl Directory {
             return Err(Refusal::CodeOutside);
         };
         let shape = table.shape();
-        let made = &mut work[0..shape.size()];
-        adjusting::scale(table, factor, made);
-        self.keep(shelf, TableRef::new(made, shape), to);
+        let scaled = &mut work[0..shape.size()];
+        adjusting::scale(table, factor, scaled);
+        self.keep(shelf, TableRef::new(scaled, shape), to);
         Ok(())
     }
 
@@ -106,9 +107,9 @@ impl Directory {
             return Err(Refusal::LetterOutside { position: 1 });
         };
         let shape = table.shape();
-        let made = &mut work[0..shape.size()];
-        adjusting::after(table, letter, made);
-        self.keep(shelf, TableRef::new(made, shape), to);
+        let following = &mut work[0..shape.size()];
+        adjusting::after(table, letter, following);
+        self.keep(shelf, TableRef::new(following, shape), to);
         Ok(())
     }
 
@@ -147,9 +148,9 @@ impl Directory {
             return Err(Refusal::StatesOver);
         }
         let shape = Shape::new(states, both.left.letters());
-        let made = &mut work[0..shape.size()];
-        addition::sum(both.left, both.right, made);
-        self.keep(shelf, TableRef::new(made, shape), to);
+        let sum = &mut work[0..shape.size()];
+        addition::sum(both.left, both.right, sum);
+        self.keep(shelf, TableRef::new(sum, shape), to);
         Ok(())
     }
 
@@ -170,9 +171,9 @@ impl Directory {
             return Err(Refusal::StatesOver);
         }
         let shape = Shape::new(states, both.left.letters());
-        let made = &mut work[0..shape.size()];
-        multiplication::multiply(both.left, both.right, made);
-        self.keep(shelf, TableRef::new(made, shape), to);
+        let product = &mut work[0..shape.size()];
+        multiplication::multiply(both.left, both.right, product);
+        self.keep(shelf, TableRef::new(product, shape), to);
         Ok(())
     }
 }

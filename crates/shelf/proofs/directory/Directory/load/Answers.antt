@@ -1,10 +1,11 @@
 use Rattle.std.proofs.Common.{[], ◌∷◌, length, refl, ap, inl, inr}
 use Rattle.rows.specs.Layout.{table_at}
+use Rattle.rows.specs.Seen.{table_of}
 use Rattle.book.specs.Calls.{load}
 use Rattle.book.specs.declared.outcome.Answer.TheVariants.{Done}
 use Rattle.shelf.specs.Views.{state}
 use Rattle.shelf.proofs.Gating.{within_one, makes_of_none, absent, short, past_4}
-use Rattle.shelf.proofs.Made.{same_refl, made, refused}
+use Rattle.shelf.proofs.Made.{seen_front, made, refused}
 use Rattle.shelf.proofs.Late.{load_accepts, load_refuses}
 use Rattle.shelf.proofs.directory.Directory.load.Goals as goal
 
@@ -51,7 +52,7 @@ returns g c =
                 R,
                 h.sized,
                 h.is,
-                made K v es c.keep.new.self.entries mem c.keep.new.shelf c.args.work.now c.read_table.new.work c.args.to z.states z.letters R R (same_refl R) refl
+                made K v es c.keep.new.self.entries mem c.keep.new.shelf c.args.work.now c.read_table.new.work c.args.to (table_of K v c.new.result) R R (seen_front K v c.new.result c.read_table.new.work z z.states z.letters c.new.ensures.of_shape c.new.ensures.in_front refl refl) refl
                     c.in_ok-to.ensures c.keep.ensures.kept c.read_table.auto.work out w,
               ),
             ),

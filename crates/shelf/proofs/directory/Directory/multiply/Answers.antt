@@ -1,21 +1,14 @@
-use Rattle.std.proofs.Common.{◌*◌, ◌<◌, ◌≤◌, length, sym, refl, ap₂, subst₂, arith}
+use Rattle.std.proofs.Common.{◌*◌, ◌<◌, ◌≤◌, length, sym, refl, ap₂, ◌∙◌, subst₂, rules}
 use Rattle.series.specs.Operations.{product_table}
 use Rattle.rows.specs.Seen.{table_of}
-use Rattle.text.proofs.Limits.{block_fits}
 use Rattle.book.specs.Calls.{multiply}
 use Rattle.book.specs.Shelves.{states_of, table}
 use Rattle.book.specs.declared.outcome.Answer.TheVariants.{Done}
 use Rattle.shelf.specs.Views.{shelf_of, state}
 use Rattle.shelf.specs.Checking.{of_multiply}
-use Rattle.shelf.proofs.Made.{table_found, made, refused}
+use Rattle.shelf.proofs.Made.{table_found, made_held, refused}
 use Rattle.shelf.proofs.Late.{multiply_accepts, multiply_refuses}
 use Rattle.shelf.proofs.directory.Directory.multiply.Goals as goal
-
-pub multiply-requires-clause-room : goal.multiply-requires-clause-room
-multiply-requires-clause-room g c =
-    let f = c.in_ok-both.ensures.found in
-    let l = c.in_ok-both.both.left in
-    omega (arith, block_fits (l.states * c.in_ok-both.both.right.states) l.letters (record { states = c.if-states-gt16.false; some_letter = f.0.left.lies.some_letter; letters = f.0.left.lies.few_letters }), f.2.working)
 
 pub returns-in_err-both : goal.returns-in_err-both
 returns-in_err-both g c = record {
@@ -31,7 +24,7 @@ returns-then-states-gt16 g c =
       does = λ out w. (
         multiply_refuses g.F.Field.field (state c.args.self.now.entries c.args.shelf.now (length c.args.work.now) out w) c.args.first c.args.second c.args.to
             (c.in_ok-both.ensures.checked (multiply c.args.first c.args.second c.args.to) out w (of_multiply c.args.first c.args.second c.args.to))
-            (subst₂ (λ d e. 16 < states_of d * states_of e) (sym f.left.told) (sym f.right.told) c.if-states-gt16.true),
+            (subst₂ (λ d e. 16 < states_of d * states_of e) (sym f.left.told) (sym f.right.told) (subst₂ (λ n m. 16 < n * m) c.states.ensures.told c.states-2.ensures.told c.if-states-gt16.true)),
         refl,
       );
     }
@@ -49,14 +42,14 @@ returns g c =
       does = λ out w. (
         multiply_accepts K (state es mem (length c.args.work.now) out w) c.args.first c.args.second c.args.to
             (c.in_ok-both.ensures.checked (multiply c.args.first c.args.second c.args.to) out w (of_multiply c.args.first c.args.second c.args.to))
-            (subst₂ (λ d e. states_of d * states_of e ≤ 16) (sym f.left.told) (sym f.right.told) c.if-states-gt16.false),
+            (subst₂ (λ d e. states_of d * states_of e ≤ 16) (sym f.left.told) (sym f.right.told) (subst₂ (λ n m. n * m ≤ 16) c.states.ensures.told c.states-2.ensures.told c.if-states-gt16.false)),
         (
           refl,
-          made K v es c.keep.new.self.entries mem c.keep.new.shelf c.args.work.now c.multiply.new.work c.args.to (l.states * r.states) l.letters
+          made_held K v es c.keep.new.self.entries mem c.keep.new.shelf c.args.work.now _ c.args.to c.new.result c.multiply.new.to c.new-shape.result
               (product_table K (table_of K v l) (table_of K v r)) (product_table K (table K v (shelf_of es mem) c.args.first) (table K v (shelf_of es mem) c.args.second))
-              c.multiply.ensures.product_written.same
+              c.new.ensures.of_shape c.new.ensures.in_front (c.new-shape.ensures.of_states ∙ ap₂ (λ n m. n * m) c.states.ensures.told c.states-2.ensures.told) (c.new-shape.ensures.of_letters ∙ c.letters.ensures.told) c.multiply.ensures.product_written
               (ap₂ (product_table K) (table_found K v es mem c.args.first l f.left) (table_found K v es mem c.args.second r f.right))
-              c.in_ok-both.ensures.found.1 c.keep.ensures.kept c.multiply.auto.work out w,
+              c.in_ok-both.ensures.found.1 c.keep.ensures.kept (search rules) out w,
         ),
       );
     }

@@ -1,11 +1,12 @@
-use Rattle.std.proofs.Common.{length, refl, subst}
+use Rattle.std.proofs.Common.{length, refl, ◌∙◌, subst}
 use Rattle.series.specs.Reducing.{Reduced}
 use Rattle.series.specs.Tables.{weight}
 use Rattle.rows.specs.Layout.{table_at}
+use Rattle.rows.specs.Seen.{table_of}
 use Rattle.book.specs.Calls.{reduce}
 use Rattle.shelf.specs.Views.{state}
 use Rattle.shelf.proofs.Gating.{makes_of_one}
-use Rattle.shelf.proofs.Made.{same_refl, table_found, made}
+use Rattle.shelf.proofs.Made.{table_found, seen_front, made}
 use Rattle.shelf.proofs.Late.{reduce_accepts}
 use Rattle.shelf.proofs.directory.Directory.reduce.Goals as goal
 
@@ -16,7 +17,7 @@ returns g c =
     let es = c.args.self.now.entries in
     let mem = c.args.shelf.now in
     let t = c.in_ok-table.table in
-    let R = table_at K v c.reduce-states.new.work 0 c.reduce-states.result t.letters in
+    let R = table_at K v c.reduce-states.new.work 0 c.reduce-states.result t.shape.letters in
     record {
       does = λ out w. (
         reduce_accepts K (state es mem (length c.args.work.now) out w) c.args.place c.args.to
@@ -26,7 +27,7 @@ returns g c =
           (
             R,
             subst (λ T. Reduced K T.letters (weight K T) R) (table_found K v es mem c.args.place t c.in_ok-table.ensures.found.0) c.reduce-states.ensures.reduced_form,
-            made K v es c.keep.new.self.entries mem c.keep.new.shelf c.args.work.now c.reduce-states.new.work c.args.to c.reduce-states.result t.letters R R (same_refl R) refl
+            made K v es c.keep.new.self.entries mem c.keep.new.shelf c.args.work.now c.reduce-states.new.work c.args.to (table_of K v c.new.result) R R (seen_front K v c.new.result c.reduce-states.new.work c.new-shape.result c.reduce-states.result t.shape.letters c.new.ensures.of_shape c.new.ensures.in_front c.new-shape.ensures.of_states (c.new-shape.ensures.of_letters ∙ c.letters-letters.ensures.told)) refl
                 c.in_ok-table.ensures.found.1 c.keep.ensures.kept c.reduce-states.auto.work out w,
           ),
         ),

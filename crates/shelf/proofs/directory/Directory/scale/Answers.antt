@@ -1,11 +1,11 @@
-use Rattle.std.proofs.Common.{length, refl, ap, ◌∙◌}
+use Rattle.std.proofs.Common.{length, refl, ap, ◌∙◌, rules}
 use Rattle.series.specs.Operations.{scaled_table}
 use Rattle.rows.specs.Seen.{table_of}
 use Rattle.book.specs.Calls.{scale}
 use Rattle.book.specs.Shelves.{table}
 use Rattle.shelf.specs.Views.{shelf_of, state}
 use Rattle.shelf.proofs.Gating.{makes_of_one}
-use Rattle.shelf.proofs.Made.{table_found, made}
+use Rattle.shelf.proofs.Made.{table_found, made_held}
 use Rattle.shelf.proofs.Late.{scale_accepts, scale_refuses}
 use Rattle.shelf.proofs.directory.Directory.scale.Goals as goal
 
@@ -40,10 +40,11 @@ returns g c =
             h.0,
         (
           refl,
-          made K v es c.keep.new.self.entries mem c.keep.new.shelf c.args.work.now c.scale.new.work c.args.to t.states t.letters
+          made_held K v es c.keep.new.self.entries mem c.keep.new.shelf c.args.work.now _ c.args.to c.new.result c.scale.new.to c.shape-shape.result
               (scaled_table K (v c.in-Some.factor) (table_of K v t)) (scaled_table K (K.decode c.args.code) (table K v (shelf_of es mem) c.args.place))
-              c.scale.ensures.scaled_written.same (ap (λ x. scaled_table K x (table_of K v t)) h.1 ∙ ap (scaled_table K (K.decode c.args.code)) (table_found K v es mem c.args.place t c.in_ok-table.ensures.found.0))
-              c.in_ok-table.ensures.found.1 c.keep.ensures.kept c.scale.auto.work out w,
+              c.new.ensures.of_shape c.new.ensures.in_front (ap (λ z. z.states) c.shape-shape.ensures.told) (ap (λ z. z.letters) c.shape-shape.ensures.told) c.scale.ensures.scaled_written
+              (ap (λ x. scaled_table K x (table_of K v t)) h.1 ∙ ap (scaled_table K (K.decode c.args.code)) (table_found K v es mem c.args.place t c.in_ok-table.ensures.found.0))
+              c.in_ok-table.ensures.found.1 c.keep.ensures.kept (search rules) out w,
         ),
       );
     }

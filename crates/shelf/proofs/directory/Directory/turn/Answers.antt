@@ -1,11 +1,11 @@
-use Rattle.std.proofs.Common.{length, refl, ap}
+use Rattle.std.proofs.Common.{length, refl, ap, rules}
 use Rattle.series.specs.Operations.{turned_table}
 use Rattle.rows.specs.Seen.{table_of}
 use Rattle.book.specs.Calls.{turn}
 use Rattle.book.specs.Shelves.{table}
 use Rattle.shelf.specs.Views.{shelf_of, state}
 use Rattle.shelf.proofs.Gating.{makes_of_one}
-use Rattle.shelf.proofs.Made.{table_found, made}
+use Rattle.shelf.proofs.Made.{table_found, made_held}
 use Rattle.shelf.proofs.Late.{turn_accepts}
 use Rattle.shelf.proofs.directory.Directory.turn.Goals as goal
 
@@ -22,10 +22,11 @@ returns g c =
             (c.in_ok-table.ensures.checked (turn c.args.place c.args.to) out w (makes_of_one (turn c.args.place c.args.to) c.args.place c.args.to refl refl refl)),
         (
           refl,
-          made K v es c.keep.new.self.entries mem c.keep.new.shelf c.args.work.now c.turn.new.work c.args.to t.states t.letters
+          made_held K v es c.keep.new.self.entries mem c.keep.new.shelf c.args.work.now _ c.args.to c.new.result c.turn.new.to c.shape-shape.result
               (turned_table K (table_of K v t)) (turned_table K (table K v (shelf_of es mem) c.args.place))
-              c.turn.ensures.turned_written.same (ap (turned_table K) (table_found K v es mem c.args.place t c.in_ok-table.ensures.found.0))
-              c.in_ok-table.ensures.found.1 c.keep.ensures.kept c.turn.auto.work out w,
+              c.new.ensures.of_shape c.new.ensures.in_front (ap (λ z. z.states) c.shape-shape.ensures.told) (ap (λ z. z.letters) c.shape-shape.ensures.told) c.turn.ensures.turned_written
+              (ap (turned_table K) (table_found K v es mem c.args.place t c.in_ok-table.ensures.found.0))
+              c.in_ok-table.ensures.found.1 c.keep.ensures.kept (search rules) out w,
         ),
       );
     }

@@ -42,16 +42,16 @@ returns-in_err-right-clause-checked g c = λ a out v pair.
     let s = state c.args.self.now.entries c.args.shelf.now (length c.args.work.now) out v in
     broken K s a 5 c.from_residual-in_err-right.result c.from_residual-in_err-right.ensures.1 (pair_empty K s a c.args.first c.args.second c.args.to pair c.in_ok-first.first c.in_ok-second.second c.in_ok-to.to c.in_ok-first.ensures c.in_ok-second.ensures c.in_ok-to.ensures c.in_ok-room.ensures.room_or_refused c.args.second (inr (inl refl)) _ (empty_at (map entry_of c.args.self.now.entries) c.in_ok-second.second c.args.second c.in_ok-second.ensures _ c.in_err-right.ensures.found_or_refused))
 
-pub returns-then-left-right-clause-checked : goal.returns-then-left-right-clause-checked
-returns-then-left-right-clause-checked g c = λ a out v pair.
+pub returns-then-letters-clause-checked : goal.returns-then-letters-clause-checked
+returns-then-letters-clause-checked g c = λ a out v pair.
     let K = g.F.Field.field in
     let s = state c.args.self.now.entries c.args.shelf.now (length c.args.work.now) out v in
     let l = c.in_ok-left.left in
     let r = c.in_ok-right.right in
-    let left = found_at (map entry_of c.args.self.now.entries) c.in_ok-first.first c.args.first c.in_ok-first.ensures (length c.args.shelf.now) l c.in_ok-left.ensures.found_or_refused in
-    let right = found_at (map entry_of c.args.self.now.entries) c.in_ok-second.second c.args.second c.in_ok-second.ensures (length c.args.shelf.now) r c.in_ok-right.ensures.found_or_refused in
-    let past = pair_past K s a c.args.first c.args.second c.args.to pair c.in_ok-first.first c.in_ok-second.second c.in_ok-to.to c.in_ok-first.ensures c.in_ok-second.ensures c.in_ok-to.ensures c.in_ok-room.ensures.room_or_refused l r left.told right.told in
-    letters_differ K s a c.args.first c.args.second c.args.to pair past (λ e. c.if-left-right.true (sym (ap letters_of left.told) ∙ e ∙ ap letters_of right.told))
+    let left = found_at (map entry_of c.args.self.now.entries) c.in_ok-first.first c.args.first c.in_ok-first.ensures c.args.shelf.now l c.in_ok-left.ensures.found_or_refused in
+    let right = found_at (map entry_of c.args.self.now.entries) c.in_ok-second.second c.args.second c.in_ok-second.ensures c.args.shelf.now r c.in_ok-right.ensures.found_or_refused in
+    let past = pair_past K s a c.args.first c.args.second c.args.to pair c.in_ok-first.first c.in_ok-second.second c.in_ok-to.to c.in_ok-first.ensures c.in_ok-second.ensures c.in_ok-to.ensures c.in_ok-room.ensures.room_or_refused l.shape r.shape left.told right.told in
+    letters_differ K s a c.args.first c.args.second c.args.to pair past (λ e. c.if-letters.true (c.letters.ensures.told ∙ sym (ap letters_of left.told) ∙ e ∙ ap letters_of right.told ∙ sym c.letters-2.ensures.told))
 
 pub returns-clause-checked : goal.returns-clause-checked
 returns-clause-checked g c = λ a out v pair.
@@ -59,7 +59,7 @@ returns-clause-checked g c = λ a out v pair.
     let s = state c.args.self.now.entries c.args.shelf.now (length c.args.work.now) out v in
     let l = c.in_ok-left.left in
     let r = c.in_ok-right.right in
-    let left = found_at (map entry_of c.args.self.now.entries) c.in_ok-first.first c.args.first c.in_ok-first.ensures (length c.args.shelf.now) l c.in_ok-left.ensures.found_or_refused in
-    let right = found_at (map entry_of c.args.self.now.entries) c.in_ok-second.second c.args.second c.in_ok-second.ensures (length c.args.shelf.now) r c.in_ok-right.ensures.found_or_refused in
-    let past = pair_past K s a c.args.first c.args.second c.args.to pair c.in_ok-first.first c.in_ok-second.second c.in_ok-to.to c.in_ok-first.ensures c.in_ok-second.ensures c.in_ok-to.ensures c.in_ok-room.ensures.room_or_refused l r left.told right.told in
-    letters_agree K s a c.args.first c.args.second c.args.to pair past (ap letters_of left.told ∙ c.if-left-right.false ∙ sym (ap letters_of right.told))
+    let left = found_at (map entry_of c.args.self.now.entries) c.in_ok-first.first c.args.first c.in_ok-first.ensures c.args.shelf.now l c.in_ok-left.ensures.found_or_refused in
+    let right = found_at (map entry_of c.args.self.now.entries) c.in_ok-second.second c.args.second c.in_ok-second.ensures c.args.shelf.now r c.in_ok-right.ensures.found_or_refused in
+    let past = pair_past K s a c.args.first c.args.second c.args.to pair c.in_ok-first.first c.in_ok-second.second c.in_ok-to.to c.in_ok-first.ensures c.in_ok-second.ensures c.in_ok-to.ensures c.in_ok-room.ensures.room_or_refused l.shape r.shape left.told right.told in
+    letters_agree K s a c.args.first c.args.second c.args.to pair past (ap letters_of left.told ∙ sym c.letters.ensures.told ∙ c.if-letters.false ∙ c.letters-2.ensures.told ∙ sym (ap letters_of right.told))

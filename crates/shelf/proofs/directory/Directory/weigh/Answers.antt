@@ -7,19 +7,19 @@ use Rattle.book.specs.Shelves.{letters_of}
 use Rattle.book.specs.declared.outcome.Answer.TheVariants.{Code}
 use Rattle.shelf.specs.Views.{state}
 use Rattle.shelf.proofs.Gating.{reads_one}
-use Rattle.shelf.proofs.Made.{table_found}
+use Rattle.shelf.proofs.Made.{table_found, refused}
 use Rattle.shelf.proofs.Late.{weigh_accepts, weigh_refuses}
 use Rattle.shelf.proofs.directory.Directory.weigh.Goals as goal
 
-pub returns-in-Ok : goal.returns-in-Ok
-returns-in-Ok g c =
+pub returns : goal.returns
+returns g c =
     let K = g.F.Field.field in
     let v = g.F.Field.value in
     let es = c.args.self.now.entries in
     let mem = c.args.shelf.now in
     let t = c.in_ok-table.table in
     let found = c.in_ok-table.ensures.found.0 in
-    let h = c.in-Ok.ensures.weight_or_first_letter_outside in
+    let h = c.in_ok-weight.ensures.weight_or_first_letter_outside in
     record {
       does = λ out w. (
         weigh_accepts K (state es mem (length c.args.work.now) out w) c.args.place c.args.word.now
@@ -32,19 +32,19 @@ returns-in-Ok g c =
       );
     }
 
-pub returns-in-Err : goal.returns-in-Err
-returns-in-Err g c =
+pub returns-in_err-weight : goal.returns-in_err-weight
+returns-in_err-weight g c =
     let K = g.F.Field.field in
     let v = g.F.Field.value in
     let es = c.args.self.now.entries in
     let mem = c.args.shelf.now in
-    let t = c.in_ok-table.table in
+    let a = weigh c.args.place c.args.word.now in
     let found = c.in_ok-table.ensures.found.0 in
     record {
-      does = λ out w. (
-        weigh_refuses K (state es mem (length c.args.work.now) out w) c.args.place c.args.word.now
-            (c.in_ok-table.ensures.checked (weigh c.args.place c.args.word.now) out w (reads_one (weigh c.args.place c.args.word.now) c.args.place 8192 refl refl refl))
-            c.in-Err.position (subst (λ k. FirstOutside k c.args.word.now c.in-Err.position) (sym (ap letters_of found.told)) c.in-Err.ensures.weight_or_first_letter_outside),
-        ap (λ n. state es mem n out w) c.weigh.auto.work,
-      );
+      does = λ out w.
+          let s = state es mem (length c.args.work.now) out w in
+          refused K v s _ a Code c.from_residual-in_err-weight.result c.from_residual-in_err-weight.ensures.1
+          (weigh_refuses K s c.args.place c.args.word.now (c.in_ok-table.ensures.checked a out w (reads_one a c.args.place 8192 refl refl refl)) c.in_err-weight.field-0.0.position
+              (subst (λ k. FirstOutside k c.args.word.now c.in_err-weight.field-0.0.position) (sym (ap letters_of found.told)) c.in_err-weight.ensures.weight_or_first_letter_outside))
+          (ap (λ n. state es mem n out w) c.weigh.auto.work);
     }

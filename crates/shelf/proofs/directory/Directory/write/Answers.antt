@@ -47,7 +47,7 @@ returns-then-output-text_size g c =
     let t = c.in_ok-table.table in
     let found = found_at (map entry_of c.args.self.now.entries) c.in_ok-place.place c.args.place c.in_ok-place.ensures c.args.shelf.now t c.in_ok-table.ensures.found_or_refused in
     let places = within_one c.in_ok-place.place c.args.place c.in_ok-place.ensures in
-    let short : length c.args.output.now < text_size t.states t.letters = subst (λ m. length c.args.output.now < m) c.text_size.ensures.counted c.if-output-text_size.true in
+    let short : length c.args.output.now < text_size t.shape.states t.shape.letters = subst (λ m. length c.args.output.now < m) (c.text_size.ensures.counted ∙ ap (λ z. text_size z.states z.letters) c.shape.ensures.told) c.if-output-text_size.true in
     record {
       does = λ n w.
           let s = state c.args.self.now.entries c.args.shelf.now n c.args.output.now w in (
@@ -69,7 +69,7 @@ returns g c =
     let t = c.in_ok-table.table in
     let found = found_at (map entry_of c.args.self.now.entries) c.in_ok-place.place c.args.place c.in_ok-place.ensures c.args.shelf.now t c.in_ok-table.ensures.found_or_refused in
     let places = within_one c.in_ok-place.place c.args.place c.in_ok-place.ensures in
-    let room : text_size t.states t.letters ≤ length c.args.output.now = subst (λ m. m ≤ length c.args.output.now) c.text_size.ensures.counted c.if-output-text_size.false in
+    let room : text_size t.shape.states t.shape.letters ≤ length c.args.output.now = subst (λ m. m ≤ length c.args.output.now) (c.text_size.ensures.counted ∙ ap (λ z. text_size z.states z.letters) c.shape.ensures.told) c.if-output-text_size.false in
     let same : table_of K v t ≡ table K v (shelf_of es mem) c.args.place = table_found K v es mem c.args.place t found in
     let front = front_written c.write_table.result (text_of K (table K v (shelf_of es mem) c.args.place)) c.args.output.now c.write_table.new.output (c.write_table.ensures.written ∙ ap (text_of K) same) c.write_table.ensures.later_bytes_kept
     (omega (arith, c.write_table.ensures.counted, c.write_table.auto.output, room)) in
