@@ -69,15 +69,6 @@ module _ {V : Type 0} (K : FiniteField V) where
   pub new_one : (d n : ℕ) (q : ℕ → ℕ → V) (p : ℕ → ℕ) (x : ℕ → V) (b : ℕ) (z : ℕ → V) → NewRow K d n q p x b z → z b ≡ K.one
   new_one d n q p x b z u = u.scaled b u.within ∙ K.times_comm (K.inverse (u.rest b)) (u.rest b) ∙ K.times_inverse (u.rest b) u.apart
 
-  -- a row is copied to behind rows of n entries
-  module _ {F : Type 0} (v : F → V) (from rows count n : ℕ) {xs ys : List F} (c : Copied (rows + count * n) n xs from xs ys) where
-    pub rows_stay : (b : ℕ) → b < count → Agree n (square_at K v ys rows n b) (square_at K v xs rows n b)
-    rows_stay b h j l = frame_below K v c.frame (rows + (b * n + j)) (omega (arith, mul-add-lt b n j count h l))
-
-    -- what they leave of the copy they leave of the row
-    pub remainder_copied : from + n ≤ length xs → rows + count * n + n ≤ length ys → (p : ℕ → ℕ) (y : ℕ → V) → Remainder K n count (square_at K v ys rows n) p (row_at K v ys (rows + count * n)) y → Remainder K n count (square_at K v xs rows n) p (row_at K v xs from) y
-    remainder_copied l h p y = remainder_same n count (square_at K v xs rows n) (square_at K v ys rows n) p (row_at K v xs from) (row_at K v ys (rows + count * n)) y rows_stay (copied_written K v c h l).done
-
   -- rows that are the first part of a slice
   pub rows_before : {F : Type 0} (v : F → V) (n count : ℕ) (xs front back : List F) → xs ≡ front ++ back → length front ≡ count * n → (b : ℕ) → b < count → Agree n (square_at K v front 0 n b) (square_at K v xs 0 n b)
   rows_before v n count xs front back e h b l j g = sym (ap (λ zs. at K v zs (0 + (b * n + j))) e ∙ at_front K v front back (0 + (b * n + j)) (omega (arith, mul-add-lt b n j count l g)))

@@ -15,9 +15,8 @@ mod tests {
     use operations::multiplication::multiply;
     use operations::turning::turn;
     use residue::{Bit, Fermat};
-    use rows::layout::TableAt;
     use rows::table::{Shape, TableRef};
-    use rows::weighing::weigh;
+    use rows::weight::weigh;
     use std::process::Abort;
     use std::test::Fail;
 
@@ -53,12 +52,7 @@ mod tests {
     ) -> Result<(), Fail>
         requires two_rows_fit { table.shape.states + table.shape.states ≤ length scratch.old }
     {
-        let at = TableAt {
-            base: 0,
-            states: table.states(),
-            letters: table.letters(),
-        };
-        match weigh(table.elements(), at, word, scratch) {
+        match weigh(table, word, scratch) {
             Ok(x) => {
                 assert_eq!(rt; x.code(), expected);
                 Ok(())

@@ -10,8 +10,7 @@ use Rattle.series.proofs.Weights.{same_weight}
 use Rattle.series.proofs.Places.{both_parts, beside_left, beside_right}
 use Rattle.rows.specs.Memory.{at, row_at}
 use Rattle.rows.specs.Layout.{table_size, table_at, matrix_offset, end_offset}
-use Rattle.rows.specs.declared.table.TableRef.{TableRef}
-use Rattle.rows.specs.Seen.{table_of, RowOf, HoldsTable}
+use Rattle.rows.specs.Seen.{RowOf, HoldsTable}
 use Rattle.rows.proofs.Memory.{at_copied}
 use Rattle.rows.proofs.Slices.{length_part, at_part}
 use Rattle.rows.proofs.Layouts.{matrix_within}

@@ -1,5 +1,5 @@
 -- How long a table of a shape is at most. Assumes nothing.
-use Rattle.std.proofs.Common.{ℕ, ◌+◌, ◌*◌, ◌≤◌, mul_assoc, mul-le-mul, arith}
+use Rattle.std.proofs.Common.{◌*◌, ◌≤◌, mul_assoc, mul-le-mul, arith}
 use Rattle.rows.specs.Layout.{table_size}
 use Rattle.rows.specs.declared.table.Shape.{Shape}
 

@@ -1,9 +1,9 @@
 -- Rows and matrices in a part of a slice. Assumes nothing.
-use Rattle.std.proofs.Common.{◌≡◌, ℕ, ◌+◌, ◌-◌, ◌*◌, ◌<◌, ◌≤◌, List, map, length, take, drop, get_or, set, sym, refl, ap, ◌∙◌, subst, arith, below_more}
+use Rattle.std.proofs.Common.{◌≡◌, ℕ, ◌+◌, ◌-◌, ◌*◌, ◌<◌, ◌≤◌, List, map, length, take, drop, get_or, set, sym, refl, ap, ◌∙◌, arith, below_more}
 use Rattle.std.proofs.lemmas.List.{length-set, length-take-le, length-drop, get_or-take, get_or-drop, take-map, drop-map}
 use Rattle.std.proofs.lemmas.Nat.{mul-add-lt}
 use Rattle.field.specs.FiniteField.{FiniteField}
-use Rattle.series.specs.Tables.{Agree, dot, move, SameTable}
+use Rattle.series.specs.Tables.{Agree, dot, SameTable}
 use Rattle.rows.specs.Layout.{table_size, table_at}
 use Rattle.rows.proofs.Layouts.{matrix_within}
 use Rattle.rows.specs.Memory.{at, row_at, square_at}
@@ -44,9 +44,6 @@ pub record Filled {F V : Type 0} (K : FiniteField V) (v : F → V) (j : ℕ) (go
   pub rest : (i : ℕ) → j ≤ i → at K v ys i ≡ at K v xs i
 
 module _ {F V : Type 0} (K : FiniteField V) (v : F → V) where
-  pub filled_none : (goal : ℕ → V) (xs : List F) → Filled K v 0 goal xs xs
-  filled_none goal xs = record { len = refl; done = λ i l. absurd (omega arith); rest = λ i l. refl }
-
   pub filled_more : {j : ℕ} {goal : ℕ → V} {xs ys : List F} (x : F) → Filled K v j goal xs ys → j < length ys → v x ≡ goal j → Filled K v (j + 1) goal xs (set ys j x)
   filled_more {j} {goal} {xs} {ys} x f l here = record {
     len = length-set ys j x ∙ f.len;
@@ -54,28 +51,11 @@ module _ {F V : Type 0} (K : FiniteField V) (v : F → V) where
     rest = λ i h. at_set_other K v ys j i x (omega arith) ∙ f.rest i (omega arith);
   }
 
-  pub filled_all : {j : ℕ} {goal : ℕ → V} {xs ys : List F} (n : ℕ) → Filled K v j goal xs ys → n ≡ j → length xs ≡ n → RowOf K v n goal ys
-  filled_all n f e h = record { len = f.len ∙ h; same = λ i l. f.done i (omega arith) }
-
   -- a dot product with a part
   pub dot_part : (a b n : ℕ) (xs : List F) (y : ℕ → V) → a + n ≡ b → b ≤ length xs → dot K (length (take (b - a) (drop a xs))) (at K v (take (b - a) (drop a xs))) y ≡ dot K n (row_at K v xs a) y
   dot_part a b n xs y w h =
       ap (λ m. dot K m (at K v (take (b - a) (drop a xs))) y) (length_part a b xs (omega arith) h ∙ omega arith)
       ∙ dot_same K n (λ i l. at_part K v a b xs i (omega arith)) (λ i l. refl)
-
-  -- a row times a matrix, by what the two slices hold
-  pub move_seen : (n : ℕ) {x : ℕ → V} {m : ℕ → ℕ → V} {row matrix to : List F} → RowOf K v n x row → SquareOf K v n m matrix
-      → RowOf K v (length row) (move K (length row) (square_at K v matrix 0 (length row)) (at K v row)) to → RowOf K v n (move K n m x) to
-  move_seen n {x} {m} {row} {matrix} {to} r s p =
-      let q : RowOf K v n (move K n (square_at K v matrix 0 n) (at K v row)) to = subst (λ k. RowOf K v k (move K k (square_at K v matrix 0 k) (at K v row)) to) r.len p in
-      record { len = q.len; same = λ j l. q.same j l ∙ dot_same K n r.same (λ i h. s.same i h j l) }
-
-  -- a matrix times a column, by what the two slices hold
-  pub product_seen : (n : ℕ) {x : ℕ → V} {m : ℕ → ℕ → V} {column matrix to : List F} → SquareOf K v n m matrix → RowOf K v n x column
-      → RowOf K v (length column) (λ i. dot K (length column) (square_at K v matrix 0 (length column) i) (at K v column)) to → RowOf K v n (λ i. dot K n (m i) x) to
-  product_seen n {x} {m} {column} {matrix} {to} s r p =
-      let q : RowOf K v n (λ i. dot K n (square_at K v matrix 0 n i) (at K v column)) to = subst (λ k. RowOf K v k (λ i. dot K k (square_at K v matrix 0 k i) (at K v column)) to) r.len p in
-      record { len = q.len; same = λ i l. q.same i l ∙ dot_same K n (s.same i l) r.same }
 
   -- a row times a column, by what the two slices hold
   pub dot_seen : (n : ℕ) {x y : ℕ → V} {row column : List F} → RowOf K v n x row → RowOf K v n y column → dot K (length row) (at K v row) (λ i. at K v column (0 + i * 1)) ≡ dot K n x y

@@ -4,4 +4,3 @@ pub mod Arithmetic
 pub mod Tables
 pub mod Seen
 pub mod Weighing
-pub mod Weighed

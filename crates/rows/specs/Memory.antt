@@ -27,11 +27,6 @@ pub record Written {F V : Type 0} (K : FiniteField V) (value : F → V) (a n : �
   pub done : Agree n (row_at K value ys a) goal
   pub frame : Frame a n xs ys
 
--- the m rows of n elements each, one after another from a on, now have the values of the rows `goal`, and every other element is the very one it was
-pub record RowsWritten {F V : Type 0} (K : FiniteField V) (value : F → V) (a m n : ℕ) (goal : ℕ → ℕ → V) (xs ys : List F) : Type 0 where
-  pub done : (i : ℕ) → i < m → Agree n (row_at K value ys (a + i * n)) (goal i)
-  pub frame : Frame a (m * n) xs ys
-
 -- the n elements from a on are now the very elements of src from b on, and every other is the very element it was
 pub record Copied {X : Type 0} (a n : ℕ) (src : List X) (b : ℕ) (xs ys : List X) : Type 0 where
   pub done : (j : ℕ) (d : X) → j < n → slice_index_or ys (a + j) d ≡ slice_index_or src (b + j) d

@@ -2,10 +2,6 @@
 //! nothing of places, entries or refusals.
 #![tactic(auto)]
 
-pub mod arithmetic;
-pub mod blocks;
-pub mod layout;
 pub mod row;
 pub mod table;
-pub mod weighing;
 pub mod weight;

@@ -2,7 +2,7 @@
 ghost use Rattle.std.specs.Prelude.{◌+◌, ◌≤◌, length};
 ghost use Rattle.rows.specs.Memory.{Frame};
 ghost use Rattle.rows.specs.Seen.{table_of};
-ghost use Rattle.rows.specs.Weighed.{Weighed};
+ghost use Rattle.rows.specs.Weighing.{Weighed};
 
 use crate::row::{dot, row_times_matrix};
 use crate::table::TableRef;

@@ -2,22 +2,18 @@
 //! product, compares, and prints what it found and the packed table's text.
 #![tactic(auto)]
 
-ghost use Rattle.std.specs.Prelude.{length};
-ghost use Rattle.rows.specs.Tables.{Lies};
-
 use anyhow::anyhow;
 use field::Field;
-use operations::adjusting::copy_table;
 use operations::multiplication::multiply;
 use reduction::reduce;
 use residue::Fermat;
-use rows::layout::TableAt;
+use rows::table::{Shape, TableRef};
 use search::compare::{Comparison, compare};
 use std::io;
 use std::io::Write;
-use text::shape::Shape;
 use text::table::read_table;
-use writer::{text_size, write_table};
+use walk::pairs::Pair;
+use writer::write_table;
 
 // Start (1, 0), matrix rows (0, 1) and (1, 1), end (0, 1): the word of m letters weighs the m-th Fibonacci number.
 const FIBONACCI: &[u8] =
@@ -44,55 +40,45 @@ fn tell(rt: &HostRuntime, found: Comparison) -> io::Result<()> {
 }
 
 // Writes the text of a table.
-fn print_table(rt: &HostRuntime, shelf: &[Fermat], table: TableAt) -> anyhow::Result<()>
-    requires table_lies { Lies (length shelf.now) table }
-{
+fn print_table(rt: &HostRuntime, table: TableRef<'_, Fermat>) -> anyhow::Result<()> {
     let mut output = [0u8; 19593];
-    let shape = Shape {
-        states: table.states,
-        letters: table.letters,
-    };
-    let count = text_size(shape);
-    write_table(shelf, table.base, shape, &mut output);
+    let count = write_table(table, &mut output);
     rt.stdout().write_all(&output[0..count])?;
     Ok(())
 }
 
 fn main(rt: HostRuntime) -> anyhow::Result<()> {
-    let mut shelf = [Fermat::zero(); 4704];
+    let mut memory = [Fermat::zero(); 1568];
+    let mut squared = [Fermat::zero(); 1568];
     let mut work = [Fermat::zero(); 8192];
-    let Ok(shape) = read_table(FIBONACCI, &mut work) else {
+    let Ok(shape) = read_table(FIBONACCI, &mut memory) else {
         return Err(anyhow!("the text is refused"));
     };
     if shape.states > 4 {
         return Err(anyhow!("the square has too many states"));
     }
-    let letters = shape.letters;
-    let table = TableAt {
-        base: 0,
-        states: shape.states,
-        letters,
-    };
-    let square = TableAt {
-        base: 1568,
-        states: shape.states * shape.states,
-        letters,
-    };
-    copy_table(&work, 0, &mut shelf, table);
-    multiply(&shelf, table, table, &mut work, 0);
-    copy_table(&work, 0, &mut shelf, square);
-    let states = reduce(&mut work, &shelf, square);
-    let packed = TableAt {
-        base: 3136,
-        states,
-        letters,
-    };
-    copy_table(&work, 0, &mut shelf, packed);
+    let table = TableRef::new(&memory, shape);
+    let square_shape = Shape::new(shape.states * shape.states, shape.letters);
+    multiply(table, table, &mut squared[0..square_shape.size()]);
+    let square = TableRef::new(&squared, square_shape);
+    let states = reduce(&mut work, square);
+    let packed_shape = Shape::new(states, shape.letters);
+    let mut packed = [Fermat::zero(); 1568];
+    packed.copy_from_slice(&work[0..1568]);
+    let packed = TableRef::new(&packed, packed_shape);
     println!(rt;
         "states: {} squared to {}, packed to {}",
-        table.states, square.states, states
+        shape.states, square_shape.states, states
     )?;
-    tell(&rt, compare(&mut work, &shelf, square, packed))?;
-    tell(&rt, compare(&mut work, &shelf, table, square))?;
-    print_table(&rt, &shelf, packed)
+    let form = Pair {
+        left: square,
+        right: packed,
+    };
+    tell(&rt, compare(&mut work, form))?;
+    let other = Pair {
+        left: table,
+        right: square,
+    };
+    tell(&rt, compare(&mut work, other))?;
+    print_table(&rt, packed)
 }

@@ -5,15 +5,15 @@
 
 ghost use Rattle.std.specs.Prelude.{◌≡◌, ◌+◌, ◌-◌, ◌≤◌, map, length, slice_get, IfOk, MatchOption, MatchResult};
 ghost use Rattle.series.specs.Tables.{weight};
-ghost use Rattle.rows.specs.Tables.{Lies, table_of};
+ghost use Rattle.rows.specs.Seen.{table_of};
 ghost use Rattle.rows.specs.Weighing.{FirstOutside};
 ghost use Rattle.weigh.specs.Letters.{letter};
 
 use faults::{LineFault, LoadFault};
 use field::Field;
 use residue::Fermat;
-use rows::layout::TableAt;
-use rows::weighing::weigh;
+use rows::table::TableRef;
+use rows::weight::{LetterOutside, weigh};
 use std::alloc::{AllocError, Global};
 use std::process::ExitCode;
 use std::{fmt, fs};
@@ -33,18 +33,16 @@ fn letters(heap: Global, line: &[u8]) -> Result<Vec<u8>, AllocError>
     line.iter().map(|b| letter_of(*b)).collect(heap)
 }
 
-// The code of a word's weight, or the position of its first letter that the table lacks.
+// The code of a word's weight, or its first letter that the table lacks.
 fn weight_code<F: Field>(
-    memory: &[F],
-    table: TableAt,
+    table: TableRef<'_, F>,
     word: &[u8],
     rows: &mut [F],
-) -> Result<u64, usize>
-    requires table_lies { Lies (length memory.now) table }
-    requires two_rows_fit { table.states + table.states ≤ length rows.old }
-    ensures code_or_first_letter_outside { MatchResult result (λ c. c ≡ F.field.code (weight F.field (table_of F.field F.value memory.now table) word.now)) (λ p. FirstOutside table.letters word.now p) }
+) -> Result<u64, LetterOutside>
+    requires two_rows_fit { table.shape.states + table.shape.states ≤ length rows.old }
+    ensures code_or_first_letter_outside { MatchResult result (λ c. c ≡ F.field.code (weight F.field (table_of F.field F.value table.entry) word.now)) (λ e. FirstOutside table.entry.shape.letters word.now e.position) }
 {
-    weigh(memory, table, word, rows).map(F::code)
+    weigh(table, word, rows).map(F::code)
 }
 
 // What stands at a position, from 1, of a line.
@@ -75,16 +73,14 @@ impl fmt::Display for Refused {
 }
 
 // Weighs the words of standard input.
-fn weigh_words(rt: &HostRuntime, memory: &[Fermat], table: TableAt) -> anyhow::Result<()>
-    requires table_lies { Lies (length memory.now) table }
-{
+fn weigh_words(rt: &HostRuntime, table: TableRef<'_, Fermat>) -> anyhow::Result<()> {
     for line in rt.lines(rt.alloc()) {
         let line = line?;
         let word = letters(rt.alloc(), line.as_bytes())?;
         let mut rows = [Fermat::zero(); 32];
-        match weight_code(memory, table, word.as_slice(), &mut rows) {
+        match weight_code(table, word.as_slice(), &mut rows) {
             Ok(code) => println!(rt; "{line}: {code}")?,
-            Err(position) => {
+            Err(LetterOutside { position }) => {
                 let letter = shown(line.as_bytes(), position);
                 println!(rt; "{line}: the table lacks the letter {letter} at position {position}")?
             }
@@ -98,12 +94,7 @@ fn main(rt: HostRuntime) -> anyhow::Result<ExitCode> {
     let mut memory = [Fermat::zero(); 1568];
     match read_table(text.as_slice(), &mut memory) {
         Ok(shape) => {
-            let table = TableAt {
-                base: 0,
-                states: shape.states,
-                letters: shape.letters,
-            };
-            weigh_words(&rt, &memory, table)?;
+            weigh_words(&rt, TableRef::new(&memory, shape))?;
             Ok(ExitCode::SUCCESS)
         }
         Err(fault) => {

@@ -1,9 +1,9 @@
-use Rattle.std.proofs.Common.{◌∙◌, ap, sym, refl, subst, arith, take, take_all}
+use Rattle.std.proofs.Common.{◌∙◌, ap, refl, subst, arith, take, take_all}
 use Rattle.series.specs.Words.{Over}
 use Rattle.series.specs.Tables.{row, move}
-use Rattle.rows.specs.Memory.{at}
 use Rattle.rows.specs.Seen.{table_of}
-use Rattle.rows.proofs.Slices.{move_seen, dot_seen}
+use Rattle.rows.proofs.Parts.{row_product}
+use Rattle.rows.proofs.Slices.{dot_seen}
 use Rattle.rows.proofs.Words.{over_more, first_outside, row_more}
 use Rattle.rows.proofs.weight.weigh.Goals as goal
 
@@ -18,7 +18,7 @@ loop-i-preserved g c =
     let w = c.args.word.now in
     let i = c.loop-i.i in
     let letter = c.in-Some.ensures.one_of_the_letters in
-    let p = move_seen K v t.shape.states (record { len = c.loop-i.invariant.1; same = c.loop-i.invariant.3 }) c.matrix.ensures.matrix_of_letter c.row_times_matrix.ensures.product_written in (
+    let p = row_product K v {n = t.shape.states} c.matrix.ensures.matrix_of_letter (record { len = c.loop-i.invariant.1; same = c.loop-i.invariant.3 }) c.row_times_matrix.ensures.product_written in (
       over_more t.shape.letters w i (omega arith) c.loop-i.invariant.0 (omega (arith, letter)) (omega (arith, letter)),
       rw c.copy_from_slice-in-loop-i.ensures.after p.len,
       p.len,

@@ -1,5 +1,0 @@
-use Rattle.rows.specs.Memory.{Copied}
-use Rattle.rows.proofs.blocks.copy_block.Given as goal
-
-abbrev pub invariant-loop-j : goal.invariant-loop-j
-invariant-loop-j g l = Copied l.to l.j l.src l.start l.initial.work l.work
