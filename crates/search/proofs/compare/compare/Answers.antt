@@ -1,4 +1,5 @@
-use Rattle.std.proofs.Common.{◌+◌, ◌*◌, [], ◌∷◌, ◌++◌, refl, arith, length-append}
+use Rattle.std.proofs.Common.{◌+◌, ◌*◌, [], ◌∷◌, ◌++◌, refl, arith, length-append, ◌≡◌, sym, ap₂, subst}
+use Rattle.walk.specs.Comparing.{AllAlike}
 use Rattle.walk.specs.Pairs.{width, left_table, right_table}
 use Rattle.walk.specs.Walking.{kept}
 use Rattle.walk.proofs.Differences.{difference_refutes, no_difference, few_tried_words}
@@ -60,10 +61,12 @@ returns g c =
     let n = kept c.try_rest.new.walk in
     let few = p.few in
     let all = no_difference K S T n p.words (record { ascends = p.ascends; good = p.good; whole = p.done refl }) p.few p.held.alike in
-    rw (c.letters-letters.ensures.told, c.count.ensures.told, c.count-2.ensures.told)
+    let tried : 1 + c.letters-letters.result * c.count.result ≡ 1 + a.pair.left.shape.letters * n = ap₂ (λ k m. 1 + k * m) c.letters-letters.ensures.told c.count.ensures.told in
+    let most = few_tried_words a.pair.left.shape.letters n (omega arith) (omega arith) in
+    let told = c.count-2.ensures.told in
     record {
-      answer = all;
-      bounded = (few_tried_words a.pair.left.shape.letters n (omega arith) (omega arith), omega arith);
+      answer = subst (λ m. AllAlike K S T (1 + c.letters-letters.result * c.count.result) m) (sym told) (subst (λ m. AllAlike K S T m n) (sym tried) all);
+      bounded = (omega arith, omega arith);
       alike_only_if_all_weigh_alike = λ n. all.alike;
       alike_if_all_weigh_alike = λ e. tt;
     }

@@ -15,12 +15,6 @@ loop-j-init c = record {
   spelt = λ words l. refl;
 }
 
-pub bounds-deref-j : goal.bounds-deref-j
-bounds-deref-j c =
-    let inside = c.loop-j.invariant.inside in
-    let each = c.args.walk.now.one_each in
-    rw (c.deref.ensures.0) (omega arith)
-
 pub bounds-letters-length : goal.bounds-letters-length
 bounds-letters-length c =
     let p = c.requires.spellable in

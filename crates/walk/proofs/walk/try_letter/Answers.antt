@@ -1,46 +1,27 @@
-use Rattle.std.proofs.Common.{◌≡◌, ◌+◌, ◌*◌, ◌≤◌, ◌∷◌, [], ◌++◌, length, drop, ap, ◌∙◌, arith}
+use Rattle.std.proofs.Common.{◌≡◌, ◌+◌, ◌*◌, ◌∷◌, [], ◌++◌, length, drop, ap, ◌∙◌, arith}
 use Rattle.series.specs.Tables.{pair, Agree}
 use Rattle.rows.specs.Memory.{at}
+use Rattle.elimination.proofs.Offsets.{rows_room}
 use Rattle.walk.specs.Pairs.{width, left_table, right_table}
 use Rattle.walk.specs.Walking.{kept}
 use Rattle.walk.proofs.Differences.{longer_difference}
 use Rattle.walk.proofs.WalkSteps.{ready_skip, ready_keep}
-use Rattle.walk.proofs.WorkRows.{row_long, row_before_at, others_stay, row_written}
+use Rattle.walk.proofs.WorkRows.{WorkRows, row_long, row_before_at, others_stay, row_written}
 use Rattle.walk.proofs.walk.try_letter.Goals as goal
 
-pub keep_row-requires-clause-echelon_form : goal.keep_row-requires-clause-echelon_form
-keep_row-requires-clause-echelon_form g c =
-    let K = g.F.Field.field in let v = g.F.Field.value in
+pub keep_row-requires : goal.keep_row-requires
+keep_row-requires g c =
     let a = c.args in
-    let S = left_table K v a.pair in
-    let T = right_table K v a.pair in
     let d = width a.pair in
     let n = kept a.walk.now in
     let r = c.requires.ready in
     let s = c.split_at_mut-before in
-    let wide : c.width-d.result ≡ d = c.width-d.ensures.both_tables_states in
-    let counted : c.count.result ≡ n = c.count.ensures.told in
-    let small : d ≤ 32 = omega arith in
+    let work : WorkRows a.rows.now s.result.0.now s.result.1.now n d c.count.result c.width-d.result = record { parts = s.ensures.value; front = s.ensures.front_len; back = s.ensures.back_len; counted = c.count.ensures.told; wide = c.width-d.ensures.both_tables_states; few = r.few; small = omega arith; large = omega arith } in
     let row = c.step_row.new.to in
-    let long : length row ≡ d = c.step_row.auto.to ∙ row_long a.rows.now s.result.0.now s.result.1.now n d c.count.result c.width-d.result s.ensures.value s.ensures.front_len s.ensures.back_len counted wide r.few small (omega arith) in
-    rw (long, c.deref.ensures.0) r.held.basis.stairs
-
-pub keep_row-requires-clause-ones_at_pivots : goal.keep_row-requires-clause-ones_at_pivots
-keep_row-requires-clause-ones_at_pivots g c =
-    let K = g.F.Field.field in let v = g.F.Field.value in
-    let a = c.args in
-    let S = left_table K v a.pair in
-    let T = right_table K v a.pair in
-    let d = width a.pair in
-    let n = kept a.walk.now in
-    let r = c.requires.ready in
-    let s = c.split_at_mut-before in
-    let wide : c.width-d.result ≡ d = c.width-d.ensures.both_tables_states in
-    let counted : c.count.result ≡ n = c.count.ensures.told in
-    let small : d ≤ 32 = omega arith in
-    let row = c.step_row.new.to in
-    let long : length row ≡ d = c.step_row.auto.to ∙ row_long a.rows.now s.result.0.now s.result.1.now n d c.count.result c.width-d.result s.ensures.value s.ensures.front_len s.ensures.back_len counted wide r.few small (omega arith) in
-    rw (long, c.deref.ensures.0) r.held.ones
+    let long : length row ≡ d = c.step_row.auto.to ∙ row_long work in
+    let room = rows_room n d r.few work.small in
+    rw (long, c.deref.ensures.0)
+    record { room = omega arith; echelon_form = r.held.basis.stairs; ones_at_pivots = r.held.ones }
 
 pub returns-in-Some : goal.returns-in-Some
 returns-in-Some g c =
@@ -52,12 +33,10 @@ returns-in-Some g c =
     let n = kept a.walk.now in
     let r = c.requires.ready in
     let s = c.split_at_mut-before in
-    let wide : c.width-d.result ≡ d = c.width-d.ensures.both_tables_states in
-    let counted : c.count.result ≡ n = c.count.ensures.told in
-    let small : d ≤ 32 = omega arith in
+    let work : WorkRows a.rows.now s.result.0.now s.result.1.now n d c.count.result c.width-d.result = record { parts = s.ensures.value; front = s.ensures.front_len; back = s.ensures.back_len; counted = c.count.ensures.told; wide = c.width-d.ensures.both_tables_states; few = r.few; small = omega arith; large = omega arith } in
     let from = a.link.parent * c.width-d.result in
-    let before = row_before_at a.rows.now s.result.0.now s.result.1.now n d c.count.result c.width-d.result s.ensures.value s.ensures.front_len s.ensures.back_len counted wide r.few small (omega arith) K v
-    a.link.parent from (from + c.width-d.result) r.inside (ap (λ e. a.link.parent * e) wide) (omega arith) in
+    let before = row_before_at work K v
+    a.link.parent from (from + c.width-d.result) r.inside (ap (λ e. a.link.parent * e) work.wide) (ap (λ e. from + e) work.wide) in
     let x = r.words a.link.parent ++ a.link.letter ∷ [] in
     let e : Agree d (at K v c.step_row.new.to) (pair K S T x) = rw (c.from.ensures) at c.step_row.ensures.pair_row_of_longer_word (r.words a.link.parent) (λ j l. before j l ∙ r.held.rows a.link.parent r.inside j l) in
     record {
@@ -82,18 +61,16 @@ returns-in_default-keep_row g c =
     let n = kept a.walk.now in
     let r = c.requires.ready in
     let s = c.split_at_mut-before in
-    let wide : c.width-d.result ≡ d = c.width-d.ensures.both_tables_states in
-    let counted : c.count.result ≡ n = c.count.ensures.told in
-    let small : d ≤ 32 = omega arith in
+    let work : WorkRows a.rows.now s.result.0.now s.result.1.now n d c.count.result c.width-d.result = record { parts = s.ensures.value; front = s.ensures.front_len; back = s.ensures.back_len; counted = c.count.ensures.told; wide = c.width-d.ensures.both_tables_states; few = r.few; small = omega arith; large = omega arith } in
     let row = c.step_row.new.to in
-    let long : length row ≡ d = c.step_row.auto.to ∙ row_long a.rows.now s.result.0.now s.result.1.now n d c.count.result c.width-d.result s.ensures.value s.ensures.front_len s.ensures.back_len counted wide r.few small (omega arith) in
+    let long : length row ≡ d = c.step_row.auto.to ∙ row_long work in
     let from = a.link.parent * c.width-d.result in
-    let before = row_before_at a.rows.now s.result.0.now s.result.1.now n d c.count.result c.width-d.result s.ensures.value s.ensures.front_len s.ensures.back_len counted wide r.few small (omega arith) K v
-    a.link.parent from (from + c.width-d.result) r.inside (ap (λ e. a.link.parent * e) wide) (omega arith) in
+    let before = row_before_at work K v
+    a.link.parent from (from + c.width-d.result) r.inside (ap (λ e. a.link.parent * e) work.wide) (ap (λ e. from + e) work.wide) in
     let x = r.words a.link.parent ++ a.link.letter ∷ [] in
     let e : Agree d (at K v c.step_row.new.to) (pair K S T x) = rw (c.from.ensures) at c.step_row.ensures.pair_row_of_longer_word (r.words a.link.parent) (λ j l. before j l ∙ r.held.rows a.link.parent r.inside j l) in
     let behind = drop c.width-d.result s.result.1.now in
-    let stay = others_stay a.rows.now s.result.0.now s.result.1.now n d c.count.result c.width-d.result s.ensures.value s.ensures.front_len s.ensures.back_len counted wide r.few small (omega arith) K v row behind long in
+    let stay = others_stay work K v row behind long in
     let left = c.in_default-keep_row.ensures in
     record {
       next_letter_or_found = ready_skip K v S T a.link.parent a.link.letter a.walk.now row a.rows.now (s.result.0.now ++ (row ++ behind)) a.echelon.now c.keep_row.new.echelon r e stay
@@ -110,19 +87,17 @@ returns-in-Some-keep_row g c =
     let n = kept a.walk.now in
     let r = c.requires.ready in
     let s = c.split_at_mut-before in
-    let wide : c.width-d.result ≡ d = c.width-d.ensures.both_tables_states in
-    let counted : c.count.result ≡ n = c.count.ensures.told in
-    let small : d ≤ 32 = omega arith in
+    let work : WorkRows a.rows.now s.result.0.now s.result.1.now n d c.count.result c.width-d.result = record { parts = s.ensures.value; front = s.ensures.front_len; back = s.ensures.back_len; counted = c.count.ensures.told; wide = c.width-d.ensures.both_tables_states; few = r.few; small = omega arith; large = omega arith } in
     let row = c.step_row.new.to in
-    let long : length row ≡ d = c.step_row.auto.to ∙ row_long a.rows.now s.result.0.now s.result.1.now n d c.count.result c.width-d.result s.ensures.value s.ensures.front_len s.ensures.back_len counted wide r.few small (omega arith) in
+    let long : length row ≡ d = c.step_row.auto.to ∙ row_long work in
     let from = a.link.parent * c.width-d.result in
-    let before = row_before_at a.rows.now s.result.0.now s.result.1.now n d c.count.result c.width-d.result s.ensures.value s.ensures.front_len s.ensures.back_len counted wide r.few small (omega arith) K v
-    a.link.parent from (from + c.width-d.result) r.inside (ap (λ e. a.link.parent * e) wide) (omega arith) in
+    let before = row_before_at work K v
+    a.link.parent from (from + c.width-d.result) r.inside (ap (λ e. a.link.parent * e) work.wide) (ap (λ e. from + e) work.wide) in
     let x = r.words a.link.parent ++ a.link.letter ∷ [] in
     let e : Agree d (at K v c.step_row.new.to) (pair K S T x) = rw (c.from.ensures) at c.step_row.ensures.pair_row_of_longer_word (r.words a.link.parent) (λ j l. before j l ∙ r.held.rows a.link.parent r.inside j l) in
     let behind = drop c.width-d.result s.result.1.now in
-    let stay = others_stay a.rows.now s.result.0.now s.result.1.now n d c.count.result c.width-d.result s.ensures.value s.ensures.front_len s.ensures.back_len counted wide r.few small (omega arith) K v row behind long in
-    let written = row_written a.rows.now s.result.0.now s.result.1.now n d c.count.result c.width-d.result s.ensures.value s.ensures.front_len s.ensures.back_len counted wide r.few small (omega arith) K v row behind long in
+    let stay = others_stay work K v row behind long in
+    let written = row_written work K v row behind long in
     let new = c.in-Some-keep_row.ensures in
     record {
       next_letter_or_found = ready_keep K v S T a.link c.in-Some-keep_row.pivot a.walk.now c.note.new.self row a.rows.now (s.result.0.now ++ (row ++ behind)) a.echelon.now c.keep_row.new.echelon r
