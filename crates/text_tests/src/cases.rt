@@ -73,8 +73,8 @@ pub fn prefixes(rt: HostRuntime, work: &mut [Fermat]) -> io::Result<()>
     requires room { 1568 ≤ length work.old }
 {
     let mut tally = Tally::new();
-    for (i, _) in SMALL.iter().enumerate() {
-        tally.add(Verdict::on(&SMALL[..i], work));
+    for length in 0..SMALL.len() {
+        tally.add(Verdict::on(&SMALL[..length], work));
     }
     println!(rt; "fronts: {tally}")
 }
@@ -97,6 +97,7 @@ fn every_change(text: &mut [u8], work: &mut [Fermat]) -> Tally
     requires room { 1568 ≤ length work.old }
 {
     let mut tally = Tally::new();
+    // an index, since the whole text is read while one of its bytes is changed
     for i in 0..text.len() {
         changed(text, i, work, &mut tally);
     }
@@ -198,6 +199,7 @@ fn crossed(text: &mut [u8], work: &mut [Fermat]) -> Tally
     requires room { 1568 ≤ length work.old }
 {
     let mut tally = Tally::new();
+    // an index, since the whole text is read while one of its bytes is changed
     for i in 0..text.len() {
         let was = text[i];
         text[i] = b'x';
