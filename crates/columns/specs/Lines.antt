@@ -1,7 +1,7 @@
 -- The kinds of lines, and which is due after which. Assumes nothing.
 use Rattle.std.specs.Prelude.{ℕ, zero, suc, ◌^◌, ◌<◌, List, [], ◌∷◌, ◌++◌, Option}
 use Rattle.std.specs.Iterator.{AlwaysYields}
-use Rattle.std.specs.List.{flat_map, AllByRecursion as All}
+use Rattle.std.specs.List.{flat_map, AllByRecursion}
 use Rattle.columns.specs.Numbers.{number}
 use Rattle.columns.specs.declared.line.Kind.{Kind}
 use Rattle.columns.specs.declared.line.Kind.TheVariants as kind
@@ -45,7 +45,7 @@ numbers vs = flat_map number vs
 
 -- each has at most ten digits
 abbrev pub TenDigits : List ℕ → Type 0
-TenDigits vs = All (λ v. v < 10 ^ 10) vs
+TenDigits vs = AllByRecursion (λ v. v < 10 ^ 10) vs
 
 -- an iterator gives just these numbers, and then ends
 abbrev pub Gives : {S : Type 0} → (S → Option ℕ → S → Type 0) → S → List ℕ → Type 0

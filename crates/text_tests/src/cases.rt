@@ -3,7 +3,7 @@ ghost use Rattle.std.specs.Prelude.{◌<◌, ◌≤◌, length};
 ghost use Rattle.rows.specs.Layout.{table_size};
 ghost use Rattle.text.specs.Texts.{Limits};
 
-use super::tally::{Tally, verdict};
+use super::tally::{Tally, Verdict};
 use field::Field;
 use residue::Fermat;
 use std::io;
@@ -18,25 +18,7 @@ const SMALL: [u8; 98] =
 fn show(rt: HostRuntime, name: &str, text: &[u8], work: &mut [Fermat]) -> io::Result<()>
     requires room { 1568 ≤ length work.old }
 {
-    let out = rt.stdout();
-    let (refusal, line, column) = verdict(text, work);
-    println!(out; "{name}: {refusal} {line} {column}")
-}
-
-/// Prints a tally.
-fn show_tally(rt: HostRuntime, name: &str, t: Tally) -> io::Result<()> {
-    let out = rt.stdout();
-    let accepted = t.accepted;
-    let ends = t.ends;
-    let unexpected = t.unexpected;
-    let columns = t.columns;
-    let values = t.values;
-    let unended = t.unended;
-    let beyond = t.beyond;
-    let mixed = t.mixed;
-    println!(out;
-        "{name}: {accepted} {ends} {unexpected} {columns} {values} {unended} {beyond}, {mixed}"
-    )
+    println!(rt; "{name}: {}", Verdict::on(text, work))
 }
 
 /// Each refusal at its first and at its last possible position in a text of one state.
@@ -90,13 +72,11 @@ pub fn named_texts(rt: HostRuntime, work: &mut [Fermat]) -> io::Result<()>
 pub fn prefixes(rt: HostRuntime, work: &mut [Fermat]) -> io::Result<()>
     requires room { 1568 ≤ length work.old }
 {
-    let text = SMALL;
     let mut tally = Tally::new();
-    for i in 0..98usize {
-        let (refusal, line, column) = verdict(&text[0..i], work);
-        tally.add(refusal, line, column);
+    for length in 0..SMALL.len() {
+        tally.add(Verdict::on(&SMALL[..length], work));
     }
-    show_tally(rt, "fronts", tally)
+    println!(rt; "fronts: {tally}")
 }
 
 /// Every byte in the place of the one at `i`, which is put back.
@@ -107,8 +87,7 @@ fn changed(text: &mut [u8], i: usize, work: &mut [Fermat], tally: &mut Tally)
     let was = text[i];
     for b in 0..=255u8 {
         text[i] = b;
-        let (refusal, line, column) = verdict(text, work);
-        tally.add(refusal, line, column);
+        tally.add(Verdict::on(text, work));
     }
     text[i] = was;
 }
@@ -118,6 +97,7 @@ fn every_change(text: &mut [u8], work: &mut [Fermat]) -> Tally
     requires room { 1568 ≤ length work.old }
 {
     let mut tally = Tally::new();
+    // an index, since the whole text is read while one of its bytes is changed
     for i in 0..text.len() {
         changed(text, i, work, &mut tally);
     }
@@ -130,7 +110,7 @@ pub fn small_changes(rt: HostRuntime, work: &mut [Fermat]) -> io::Result<()>
 {
     let mut text = SMALL;
     let tally = every_change(&mut text, work);
-    show_tally(rt, "changes", tally)
+    println!(rt; "changes: {tally}")
 }
 
 /// Gives the element at i the code (first + i * step) mod 65537.
@@ -148,7 +128,7 @@ fn mixed(text: &[u8]) -> u64 {
     for b in text {
         all = all
             .wrapping_mul(6364136223846793005)
-            .wrapping_add(*b as u64);
+            .wrapping_add(u64::from(*b));
     }
     all
 }
@@ -165,12 +145,11 @@ fn show_text(
     requires within { table_size shape.states shape.letters ≤ length work.now }
     requires room { 19600 ≤ length text.old }
 {
-    let out = rt.stdout();
     let size = text_size(shape);
     let count = write_table(work, 0, shape, text);
     let sum = mixed(&text[0..size]);
     let next = text[size];
-    println!(out; "{name}: {count} {sum} {next}")
+    println!(rt; "{name}: {count} {sum} {next}")
 }
 
 /// Tables of no states and of the most states and letters, written, read and written again.
@@ -220,11 +199,11 @@ fn crossed(text: &mut [u8], work: &mut [Fermat]) -> Tally
     requires room { 1568 ≤ length work.old }
 {
     let mut tally = Tally::new();
+    // an index, since the whole text is read while one of its bytes is changed
     for i in 0..text.len() {
         let was = text[i];
         text[i] = b'x';
-        let (refusal, line, column) = verdict(text, work);
-        tally.add(refusal, line, column);
+        tally.add(Verdict::on(text, work));
         text[i] = was;
     }
     tally
@@ -236,5 +215,5 @@ pub fn large_changes(rt: HostRuntime, work: &mut [Fermat], text: &mut [u8]) -> i
     requires text_room { 19600 ≤ length text.old }
 {
     let tally = crossed(&mut text[0..19593], work);
-    show_tally(rt, "most states crossed", tally)
+    println!(rt; "most states crossed: {tally}")
 }

@@ -12,7 +12,6 @@ use residue::Fermat;
 use std::io;
 
 fn main(rt: HostRuntime) -> io::Result<()> {
-    let out = rt.stdout();
     let mut work = [Fermat::zero(); 1568];
     let mut text = [0u8; 19600];
     named_texts(rt, &mut work)?;
@@ -22,5 +21,5 @@ fn main(rt: HostRuntime) -> io::Result<()> {
     large_changes(rt, &mut work, &mut text)?;
     largest(rt)?;
     refused_columns(rt)?;
-    println!(out; "end")
+    println!(rt; "end")
 }

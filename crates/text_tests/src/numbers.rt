@@ -5,18 +5,15 @@ use std::io;
 
 /// Prints what the columns hold, or the column that cannot stand.
 fn show(rt: HostRuntime, bytes: &[u8; 11]) -> io::Result<()> {
-    let out = rt.stdout();
-    match columns(
-        bytes,
-        Position {
-            line: 7,
-            column: 13,
-        },
-    ) {
-        Ok(value) => println!(out; "number {value}"),
+    let start = Position {
+        line: 7,
+        column: 13,
+    };
+    match columns(bytes, start) {
+        Ok(value) => println!(rt; "number {value}"),
         Err(fault) => {
             let (line, column) = fault.position();
-            println!(out; "column {line} {column}")
+            println!(rt; "column {line} {column}")
         }
     }
 }

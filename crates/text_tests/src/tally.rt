@@ -1,33 +1,58 @@
-//! Verdicts, counted and mixed into one number.
+//! Verdicts, shown, counted and mixed into one number.
 ghost use Rattle.std.specs.Prelude.{◌≤◌, length};
 
+use faults::{LineFault, LoadFault};
 use residue::Fermat;
+use std::fmt;
+use text::shape::Shape;
 use text::table::read_table;
 
-/// The refusal's number, line and column; 0, states and letters for an accepted text.
-pub fn verdict(text: &[u8], work: &mut [Fermat]) -> (u64, u64, u64)
-    requires room { 1568 ≤ length work.old }
-{
-    match read_table::<Fermat>(text, work) {
-        Ok(shape) => (0, shape.states as u64, shape.letters as u64),
-        Err(fault) => {
-            let (line, column) = fault.position();
-            (fault.refusal() as u64, line as u64, column as u64)
+/// A text's table's size, or why the text is refused.
+#[derive(Clone, Copy)]
+pub struct Verdict(pub Result<Shape, LoadFault>);
+
+impl Verdict {
+    /// The verdict on a text.
+    pub fn on(text: &[u8], work: &mut [Fermat]) -> Verdict
+        requires room { 1568 ≤ length work.old }
+    {
+        Verdict(read_table::<Fermat>(text, work))
+    }
+
+    /// The refusal's number, line and column; 0, states and letters for an accepted text.
+    fn numbers(&self) -> (u64, u64, u64) {
+        match &self.0 {
+            Ok(shape) => (0, shape.states as u64, shape.letters as u64),
+            Err(fault) => {
+                let (line, column) = fault.position();
+                (
+                    u64::from(fault.refusal()),
+                    u64::from(line),
+                    u64::from(column),
+                )
+            }
         }
     }
 }
 
-/// How often each refusal came, 0 for none, and all verdicts in their order mixed into one number.
+impl fmt::Display for Verdict {
+    fn fmt<W: fmt::Write>(&self, f: &mut fmt::Formatter<W>) -> fmt::Result {
+        let (number, first, second) = self.numbers();
+        write!(f, "{number} {first} {second}")
+    }
+}
+
+/// How often each verdict came, and all in their order mixed into one number.
 #[derive(Clone, Copy)]
 pub struct Tally {
-    pub accepted: u64,
-    pub ends: u64,
-    pub unexpected: u64,
-    pub columns: u64,
-    pub values: u64,
-    pub unended: u64,
-    pub beyond: u64,
-    pub mixed: u64,
+    accepted: u64,
+    ends: u64,
+    unexpected: u64,
+    columns: u64,
+    values: u64,
+    unended: u64,
+    beyond: u64,
+    mixed: u64,
 }
 
 impl Tally {
@@ -44,23 +69,43 @@ impl Tally {
         }
     }
 
-    pub fn add(&mut self, refusal: u64, line: u64, column: u64) {
-        match refusal {
-            0 => self.accepted = self.accepted.wrapping_add(1),
-            10 => self.ends = self.ends.wrapping_add(1),
-            11 => self.unexpected = self.unexpected.wrapping_add(1),
-            12 => self.columns = self.columns.wrapping_add(1),
-            13 => self.values = self.values.wrapping_add(1),
-            14 => self.unended = self.unended.wrapping_add(1),
-            _ => self.beyond = self.beyond.wrapping_add(1),
-        }
-        let mark = refusal
+    /// Counts one more verdict.
+    pub fn add(&mut self, verdict: Verdict) {
+        let count = match verdict.0 {
+            Ok(_) => &mut self.accepted,
+            Err(LoadFault::Line(LineFault::Ends(_))) => &mut self.ends,
+            Err(LoadFault::Line(LineFault::Unexpected(_))) => &mut self.unexpected,
+            Err(LoadFault::Line(LineFault::Column(_))) => &mut self.columns,
+            Err(LoadFault::Value(_)) => &mut self.values,
+            Err(LoadFault::Line(LineFault::Unended(_))) => &mut self.unended,
+            Err(LoadFault::Beyond(_)) => &mut self.beyond,
+        };
+        *count = count.wrapping_add(1);
+        let (number, first, second) = verdict.numbers();
+        let mark = number
             .wrapping_mul(1000003)
-            .wrapping_add(line.wrapping_mul(1009))
-            .wrapping_add(column);
+            .wrapping_add(first.wrapping_mul(1009))
+            .wrapping_add(second);
         self.mixed = self
             .mixed
             .wrapping_mul(6364136223846793005)
             .wrapping_add(mark);
+    }
+}
+
+impl fmt::Display for Tally {
+    fn fmt<W: fmt::Write>(&self, f: &mut fmt::Formatter<W>) -> fmt::Result {
+        write!(
+            f,
+            "{} {} {} {} {} {} {}, {}",
+            self.accepted,
+            self.ends,
+            self.unexpected,
+            self.columns,
+            self.values,
+            self.unended,
+            self.beyond,
+            self.mixed
+        )
     }
 }
