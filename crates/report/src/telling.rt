@@ -2,7 +2,8 @@
 ghost use Rattle.std.specs.Prelude.{◌≤◌, ◌++◌, length, IfOk};
 ghost use Rattle.columns.specs.Lines.{line};
 ghost use Rattle.report.specs.Reports.{refused_line, Reports};
-ghost use Rattle.report.specs.Findings.{AtFront, Fits, TenDigits, finding_line, verdict_line};
+ghost use Rattle.columns.specs.Lines.{TenDigits};
+ghost use Rattle.report.specs.Findings.{AtFront, Fits, finding_line, verdict_line};
 
 use crate::finding::{Rejection, find};
 use crate::line::put_line;
