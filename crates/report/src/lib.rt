@@ -4,7 +4,8 @@
 
 ghost use Rattle.std.specs.Prelude.{◌≡◌, ◌*◌, ◌^◌, ◌<◌, ◌≤◌, ◌↔◌, length, slice_index};
 ghost use Rattle.std.specs.Mem.{type_size};
-ghost use Rattle.residue.specs.Delivered.{fermat};
+ghost use Rattle.residue.specs.Delivered.{bits, fermat};
+ghost use Rattle.byte.specs.Bytes.{bytes};
 ghost use Rattle.report.specs.Reports.{Reports, WeighAlike, OneLine};
 
 mod finding;
@@ -12,15 +13,15 @@ mod line;
 mod telling;
 pub mod theorems;
 
+use byte::Byte;
 use field::Field;
-use residue::Fermat;
+use residue::{Bit, Fermat};
 use telling::tell;
 use theorems::{one_line, q_where_alike};
 
-/// Reports on two texts over a field: writes its line to the front of the output, and answers how many bytes it has.
-/// An output below 387 bytes, which not every line fits into, gives 0 before anything is read, and is left as it is.
-/// The memory is its own; its requirement is on the size of an element alone, and is computed at each field.
-pub fn report_over<F: Field>(first: &[u8], second: &[u8], out: &mut [u8]) -> usize
+// Reports over a field, with memory of its own. What it asks is of the size of an element alone; the functions for each
+// field ask nothing, since the size is known there.
+fn report_over<F: Field>(first: &[u8], second: &[u8], out: &mut [u8]) -> usize
     requires elements_fit { 12544 * type_size F.row < 2 ^ 63 }
     ensures reports { Reports F.field first.now second.now out.old result out.new }
     ensures at_most_387 { result ≤ 387 }
@@ -36,7 +37,8 @@ pub fn report_over<F: Field>(first: &[u8], second: &[u8], out: &mut [u8]) -> usi
     tell(&mut shelf, &mut work, first, second, out)
 }
 
-/// The same over GF(65537), for C.
+/// Reports on two texts over GF(65537): writes its line to the front of the output, and answers how many bytes it has.
+/// An output below 387 bytes, which not every line fits into, gives 0 before anything is read, and is left as it is.
 pub fn report(first: &[u8], second: &[u8], out: &mut [u8]) -> usize
     ensures reports { Reports fermat first.now second.now out.old result out.new }
     ensures at_most_387 { result ≤ 387 }
@@ -44,4 +46,20 @@ pub fn report(first: &[u8], second: &[u8], out: &mut [u8]) -> usize
     ensures one_line { OneLine fermat }
 {
     report_over::<Fermat>(first, second, out)
+}
+
+/// The same over GF(2).
+pub fn report_bits(first: &[u8], second: &[u8], out: &mut [u8]) -> usize
+    ensures reports { Reports bits first.now second.now out.old result out.new }
+    ensures at_most_387 { result ≤ 387 }
+{
+    report_over::<Bit>(first, second, out)
+}
+
+/// The same over GF(256).
+pub fn report_bytes(first: &[u8], second: &[u8], out: &mut [u8]) -> usize
+    ensures reports { Reports bytes first.now second.now out.old result out.new }
+    ensures at_most_387 { result ≤ 387 }
+{
+    report_over::<Byte>(first, second, out)
 }

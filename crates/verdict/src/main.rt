@@ -5,13 +5,11 @@ ghost use Rattle.std.specs.Prelude.{◌≤◌, IfOk, IsErr, vec_len};
 ghost use Rattle.verdict.specs.Reporting.{ReportsOver};
 
 use anyhow::anyhow;
-use byte::Byte;
 use command::VERSION;
 use command::files::{MOST, read_if_there};
 use command::offered::Offered;
 use command::wish::{Wish, asked_for, name_or};
-use report::report_over;
-use residue::{Bit, Fermat};
+use report::{report, report_bits, report_bytes};
 use std::io;
 use std::io::Write;
 use std::process::ExitCode;
@@ -41,9 +39,9 @@ fn report_offered(field: Offered, first: &[u8], second: &[u8], line: &mut [u8]) 
     ensures at_most_387 { result ≤ 387 }
 {
     match field {
-        Offered::Bits => report_over::<Bit>(first, second, line),
-        Offered::Bytes => report_over::<Byte>(first, second, line),
-        Offered::Fermat => report_over::<Fermat>(first, second, line),
+        Offered::Bits => report_bits(first, second, line),
+        Offered::Bytes => report_bytes(first, second, line),
+        Offered::Fermat => report(first, second, line),
     }
 }
 
