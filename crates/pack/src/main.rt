@@ -16,10 +16,9 @@ use field::Field;
 use packing::pack;
 use packing::packed::Packed;
 use residue::{Bit, Fermat};
-use std::fs;
-use std::io;
 use std::io::Write;
 use std::process::ExitCode;
+use std::{fs, io};
 
 const HELP: &str = "usage: pack [--field Q] [FILE [OUT]]
 
@@ -74,8 +73,9 @@ fn pack_over<F: Field>(rt: &HostRuntime, text: &[u8], files: &[String]) -> anyho
     let mut shelf = [F::zero(); 12544];
     let mut work = [F::zero(); 8192];
     let mut output = [0u8; 19593];
-    let done = pack(&mut shelf, &mut work, &mut output, text)
-        .or_else(|refusal| refuse(rt, name, refusal))?;
+    let done = pack(&mut shelf, &mut work, &mut output, text).or_else(|refusal| refuse(
+        rt, name, refusal,
+    ))?;
     // By the contract of `pack` neither can be; the text is not written where one is.
     if done.verdict.kind != Kind::Alike || done.bytes > output.len() {
         return Err(anyhow!("the packed table weighs some word differently"));

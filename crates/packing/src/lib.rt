@@ -10,8 +10,8 @@ use crate::packed::Packed;
 use book::refusal::Refusal;
 use book::verdict::Verdict;
 use field::Field;
-use shelf::directory::Directory;
 use rows::table::Shape;
+use shelf::directory::Directory;
 
 pub mod packed;
 

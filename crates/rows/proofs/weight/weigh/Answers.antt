@@ -33,5 +33,5 @@ returns-clause-weight_or_first_letter_outside g c =
     let all = take_all c.loop-i.i w (omega arith) in (
       subst (Over t.shape.letters) all c.loop-i.invariant.0,
       c.dot.ensures.is_dot_product
-      ∙ dot_seen K v t.shape.states (record { len = c.loop-i.invariant.1; same = λ j l. c.loop-i.invariant.3 j l ∙ ap (λ u. row K (table_of K v t) u j) all }) c.end.ensures.end_column,
+          ∙ dot_seen K v t.shape.states (record { len = c.loop-i.invariant.1; same = λ j l. c.loop-i.invariant.3 j l ∙ ap (λ u. row K (table_of K v t) u j) all }) c.end.ensures.end_column,
     )

@@ -28,9 +28,9 @@ returns g c =
         numbers =
             subst (λ b. TableWritten K v b R c.args.shelf.now (put_mid base (base + c.size.result - base) c.args.shelf.now c.copy_from_slice.new.self)) c.begins-base.ensures.told
             (table_kept K v base (base + c.size.result - base) z.states z.letters c.args.shelf.now c.copy_from_slice.new.self R (omega (arith, size))
-                (omega (arith, place_fits z c.args.to.number (length c.args.shelf.now) base c.begins-base.ensures.told c.args.to.within c.requires.shelf_whole, size))
-                (ap length c.copy_from_slice.ensures.after ∙ held.len ∙ omega (arith, size))
-                (subst (λ xs. SameTable (table_at K v xs 0 z.states z.letters) R) (sym c.copy_from_slice.ensures.after) (same_trans (table_at K v c.elements.result.now 0 z.states z.letters) (table_of K v t) R held.same s)));
+            (omega (arith, place_fits z c.args.to.number (length c.args.shelf.now) base c.begins-base.ensures.told c.args.to.within c.requires.shelf_whole, size))
+            (ap length c.copy_from_slice.ensures.after ∙ held.len ∙ omega (arith, size))
+            (subst (λ xs. SameTable (table_at K v xs 0 z.states z.letters) R) (sym c.copy_from_slice.ensures.after) (same_trans (table_at K v c.elements.result.now 0 z.states z.letters) (table_of K v t) R held.same s)));
         lent = refl;
       };
     }

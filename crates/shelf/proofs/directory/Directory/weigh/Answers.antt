@@ -45,6 +45,6 @@ returns-in_err-weight g c =
           let s = state es mem (length c.args.work.now) out w in
           refused K v s _ a Code c.from_residual-in_err-weight.result c.from_residual-in_err-weight.ensures.1
           (weigh_refuses K s c.args.place c.args.word.now (c.in_ok-table.ensures.checked a out w (reads_one a c.args.place 8192 refl refl refl)) c.in_err-weight.field-0.0.position
-              (subst (λ k. FirstOutside k c.args.word.now c.in_err-weight.field-0.0.position) (sym (ap letters_of found.told)) c.in_err-weight.ensures.weight_or_first_letter_outside))
+          (subst (λ k. FirstOutside k c.args.word.now c.in_err-weight.field-0.0.position) (sym (ap letters_of found.told)) c.in_err-weight.ensures.weight_or_first_letter_outside))
           (ap (λ n. state es mem n out w) c.weigh.auto.work);
     }
