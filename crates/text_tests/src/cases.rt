@@ -1,13 +1,11 @@
 //! Texts and their verdicts.
-ghost use Rattle.std.specs.Prelude.{◌<◌, ◌≤◌, length};
-ghost use Rattle.rows.specs.Layout.{table_size};
-ghost use Rattle.text.specs.Texts.{Limits};
+ghost use Rattle.std.specs.Prelude.{◌<◌, length};
 
 use super::tally::{Tally, Verdict};
 use field::Field;
 use residue::Fermat;
+use rows::table::{Shape, TableRef};
 use std::io;
-use text::shape::Shape;
 use writer::{text_size, write_table};
 
 // One state and one letter over GF(65537).
@@ -15,16 +13,12 @@ const SMALL: [u8; 98] =
     *b"T          1          1      65537\nS          1\nM          1          1      65536\nE          0\nZ\n";
 
 /// Prints a verdict.
-fn show(rt: HostRuntime, name: &str, text: &[u8], work: &mut [Fermat]) -> io::Result<()>
-    requires room { 1568 ≤ length work.old }
-{
+fn show(rt: HostRuntime, name: &str, text: &[u8], work: &mut [Fermat; 1568]) -> io::Result<()> {
     println!(rt; "{name}: {}", Verdict::on(text, work))
 }
 
 /// Each refusal at its first and at its last possible position in a text of one state.
-pub fn named_texts(rt: HostRuntime, work: &mut [Fermat]) -> io::Result<()>
-    requires room { 1568 ≤ length work.old }
-{
+pub fn named_texts(rt: HostRuntime, work: &mut [Fermat; 1568]) -> io::Result<()> {
     show(rt, "10 first", b"", work)?;
     show(
         rt,
@@ -69,9 +63,7 @@ pub fn named_texts(rt: HostRuntime, work: &mut [Fermat]) -> io::Result<()>
 }
 
 /// Every front of the text of one state.
-pub fn prefixes(rt: HostRuntime, work: &mut [Fermat]) -> io::Result<()>
-    requires room { 1568 ≤ length work.old }
-{
+pub fn prefixes(rt: HostRuntime, work: &mut [Fermat; 1568]) -> io::Result<()> {
     let mut tally = Tally::new();
     for length in 0..SMALL.len() {
         tally.add(Verdict::on(&SMALL[..length], work));
@@ -80,8 +72,7 @@ pub fn prefixes(rt: HostRuntime, work: &mut [Fermat]) -> io::Result<()>
 }
 
 /// Every byte in the place of the one at `i`, which is put back.
-fn changed(text: &mut [u8], i: usize, work: &mut [Fermat], tally: &mut Tally)
-    requires room { 1568 ≤ length work.old }
+fn changed(text: &mut [u8], i: usize, work: &mut [Fermat; 1568], tally: &mut Tally)
     requires within { i < length text.old }
 {
     let was = text[i];
@@ -93,9 +84,7 @@ fn changed(text: &mut [u8], i: usize, work: &mut [Fermat], tally: &mut Tally)
 }
 
 /// Every change of one byte.
-fn every_change(text: &mut [u8], work: &mut [Fermat]) -> Tally
-    requires room { 1568 ≤ length work.old }
-{
+fn every_change(text: &mut [u8], work: &mut [Fermat; 1568]) -> Tally {
     let mut tally = Tally::new();
     // an index, since the whole text is read while one of its bytes is changed
     for i in 0..text.len() {
@@ -105,9 +94,7 @@ fn every_change(text: &mut [u8], work: &mut [Fermat]) -> Tally
 }
 
 /// Every change of one byte of the text of one state.
-pub fn small_changes(rt: HostRuntime, work: &mut [Fermat]) -> io::Result<()>
-    requires room { 1568 ≤ length work.old }
-{
+pub fn small_changes(rt: HostRuntime, work: &mut [Fermat; 1568]) -> io::Result<()> {
     let mut text = SMALL;
     let tally = every_change(&mut text, work);
     println!(rt; "changes: {tally}")
@@ -133,71 +120,46 @@ fn mixed(text: &[u8]) -> u64 {
     all
 }
 
-/// Prints the text of the table at the front of `work`: its length, its bytes mixed and the byte after it.
+/// Prints the text of the table: its length, its bytes mixed and the byte after it.
 fn show_text(
     rt: HostRuntime,
     name: &str,
-    work: &[Fermat],
-    shape: Shape,
-    text: &mut [u8],
-) -> io::Result<()>
-    requires limits { Limits shape.states shape.letters }
-    requires within { table_size shape.states shape.letters ≤ length work.now }
-    requires room { 19600 ≤ length text.old }
-{
-    let size = text_size(shape);
-    let count = write_table(work, 0, shape, text);
-    let sum = mixed(&text[0..size]);
+    table: TableRef<'_, Fermat>,
+    text: &mut [u8; 19600],
+) -> io::Result<()> {
+    let size = text_size(table.shape());
+    let count = write_table(table, text);
+    let sum = mixed(&text[..size]);
     let next = text[size];
     println!(rt; "{name}: {count} {sum} {next}")
 }
 
 /// Tables of no states and of the most states and letters, written, read and written again.
-pub fn large_table(rt: HostRuntime, work: &mut [Fermat], text: &mut [u8]) -> io::Result<()>
-    requires room { 1568 ≤ length work.old }
-    requires text_room { 19600 ≤ length text.old }
-{
+pub fn large_table(
+    rt: HostRuntime,
+    work: &mut [Fermat; 1568],
+    text: &mut [u8; 19600],
+) -> io::Result<()> {
     text.fill(b'#');
     fill(work, 3, 40503);
-    show_text(
-        rt,
-        "no states",
-        work,
-        Shape {
-            states: 0,
-            letters: 6,
-        },
-        text,
-    )?;
-    show(rt, "no states read", &text[0..41], work)?;
-    show_text(
-        rt,
-        "most states",
-        work,
-        Shape {
-            states: 16,
-            letters: 6,
-        },
-        text,
-    )?;
+    let shape = Shape {
+        states: 0,
+        letters: 6,
+    };
+    show_text(rt, "no states", TableRef::new(work, shape), text)?;
+    show(rt, "no states read", &text[..41], work)?;
+    let shape = Shape {
+        states: 16,
+        letters: 6,
+    };
+    show_text(rt, "most states", TableRef::new(work, shape), text)?;
     fill(work, 0, 0);
-    show(rt, "most states read", &text[0..19593], work)?;
-    show_text(
-        rt,
-        "most states again",
-        work,
-        Shape {
-            states: 16,
-            letters: 6,
-        },
-        text,
-    )
+    show(rt, "most states read", &text[..19593], work)?;
+    show_text(rt, "most states again", TableRef::new(work, shape), text)
 }
 
 /// An x in the place of each byte, one after another.
-fn crossed(text: &mut [u8], work: &mut [Fermat]) -> Tally
-    requires room { 1568 ≤ length work.old }
-{
+fn crossed(text: &mut [u8], work: &mut [Fermat; 1568]) -> Tally {
     let mut tally = Tally::new();
     // an index, since the whole text is read while one of its bytes is changed
     for i in 0..text.len() {
@@ -210,10 +172,11 @@ fn crossed(text: &mut [u8], work: &mut [Fermat]) -> Tally
 }
 
 /// An x in the place of each byte of the text of the most states and letters that stands in `text`.
-pub fn large_changes(rt: HostRuntime, work: &mut [Fermat], text: &mut [u8]) -> io::Result<()>
-    requires room { 1568 ≤ length work.old }
-    requires text_room { 19600 ≤ length text.old }
-{
-    let tally = crossed(&mut text[0..19593], work);
+pub fn large_changes(
+    rt: HostRuntime,
+    work: &mut [Fermat; 1568],
+    text: &mut [u8; 19600],
+) -> io::Result<()> {
+    let tally = crossed(&mut text[..19593], work);
     println!(rt; "most states crossed: {tally}")
 }

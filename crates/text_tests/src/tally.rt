@@ -1,10 +1,9 @@
 //! Verdicts, shown, counted and mixed into one number.
-ghost use Rattle.std.specs.Prelude.{◌≤◌, length};
 
 use faults::{LineFault, LoadFault};
 use residue::Fermat;
+use rows::table::Shape;
 use std::fmt;
-use text::shape::Shape;
 use text::table::read_table;
 
 /// A text's table's size, or why the text is refused.
@@ -13,15 +12,14 @@ pub struct Verdict(pub Result<Shape, LoadFault>);
 
 impl Verdict {
     /// The verdict on a text.
-    pub fn on(text: &[u8], work: &mut [Fermat]) -> Verdict
-        requires room { 1568 ≤ length work.old }
-    {
+    pub fn on(text: &[u8], work: &mut [Fermat; 1568]) -> Verdict {
         Verdict(read_table::<Fermat>(text, work))
     }
 
     /// The refusal's number, line and column; 0, states and letters for an accepted text.
     fn numbers(&self) -> (u64, u64, u64) {
         match &self.0 {
+            // `as`: std has no From between usize and u64.
             Ok(shape) => (0, shape.states as u64, shape.letters as u64),
             Err(fault) => {
                 let (line, column) = fault.position();
