@@ -65,6 +65,7 @@ where
         }
     }
 
+    // A cast, which is proved to lose nothing; `try_from` would bring a case that never comes.
     fn mul(self, other: Residue<P>) -> Residue<P> {
         Residue {
             n: (self.code() * other.code() % Self::order()) as u32,
@@ -75,15 +76,14 @@ where
         if self.n == 0 {
             return None;
         }
-        // a times self leaves r; since P is prime, r falls to 1.
-        let p = Self::order();
+        // a times self leaves r; since P is prime, r falls to 1. A `while`: how many turns that takes only the turns tell.
         let mut a = 1;
-        let mut r = self.code();
+        let mut r = self.n;
         while r > 1 {
-            a = p / r * (p - a) % p;
-            r = p % r;
+            a = P / r * (P - a) % P;
+            r = P % r;
         }
-        Some(Residue { n: a as u32 })
+        Some(Residue { n: a })
     }
 
     fn same(self, other: Residue<P>) -> bool {
@@ -96,11 +96,8 @@ where
 
     // An `if` and not `then`: no proof is made of a call whose closure returns a type with a parameter.
     fn from_code(n: u64) -> Option<Residue<P>> {
-        if n < Self::order() {
-            Some(Residue { n: n as u32 })
-        } else {
-            None
-        }
+        let n = u32::try_from(n).ok()?;
+        if n < P { Some(Residue { n }) } else { None }
     }
 
     fn order() -> u64 {

@@ -11,12 +11,12 @@ returns-then-self-eq0 g c = record { is_inverse_unless_zero = same_below _ _ c.i
 pub loop-r-init : goal.loop-r-init
 loop-r-init g c =
     let pr : Prime g.row.P = search rules in
-    rw c.code-r.ensures.is_code (on_way g.row.P pr c.args.self.n (omega arith) c.args.self.below)
+    on_way g.row.P pr c.args.self.n (omega arith) c.args.self.below
 
 pub loop-r-preserved : goal.loop-r-preserved
 loop-r-preserved g c =
     let pr : Prime g.row.P = search rules in
-    rw c.order-p.ensures.is_order (onward g.row.P pr c.args.self.n c.loop-r.a c.loop-r.r c.loop-r.invariant c.loop-r-test.true)
+    onward g.row.P pr c.args.self.n c.loop-r.a c.loop-r.r c.loop-r.invariant c.loop-r-test.true
 
 pub returns : goal.returns
 returns g c =
