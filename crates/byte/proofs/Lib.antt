@@ -1,1 +1,1 @@
-pub mod Turns
+pub mod Looked

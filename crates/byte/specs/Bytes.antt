@@ -12,13 +12,10 @@ use Rattle.byte.specs.Linear.{left, right, agree, all, all_at}
 raised_lt : (a : ℕ) → raised a < 256
 raised_lt a = xor_lt 8 (a % 128 * 2) (a / 128 % 2 * 27) (omega (arith, mod-lt a {m = 128} (lit< tt))) (omega (arith, mod-lt (a / 128) {m = 2} (lit< tt)))
 
-pub half_raised_lt : (a : ℕ) → a < 256 → bit_xor (a % 128 * 2) (a / 128 * 27) < 256
-half_raised_lt a h = xor_lt 8 (a % 128 * 2) (a / 128 * 27) (omega arith) (omega arith)
-
-pub bit_lt : (b a : ℕ) → a < 256 → b % 2 * a < 256
+bit_lt : (b a : ℕ) → a < 256 → b % 2 * a < 256
 bit_lt b a h = let odd : b % 2 < 2 = mod-lt b (lit< tt) in let e : b % 2 * a ≤ 1 * 255 = mul-le (b % 2) a 1 255 (omega arith) (omega arith) in omega arith
 
-pub partial_lt : (k a b : ℕ) → a < 256 → partial k a b < 256
+partial_lt : (k a b : ℕ) → a < 256 → partial k a b < 256
 partial_lt zero a b h = lit< tt
 partial_lt (suc k) a b h = xor_lt 8 (b % 2 * a) (partial k (raised a) (b / 2)) (bit_lt b a h) (partial_lt k (raised a) (b / 2) (raised_lt a))
 

@@ -6,7 +6,10 @@ ghost use Rattle.field.specs.Below.{Below};
 ghost use Rattle.byte.specs.Product.{product as bytewise};
 ghost use Rattle.byte.specs.Bytes.{bytes};
 
+mod tables;
+
 use field::Field;
+use tables::{LOGARITHMS, POWERS};
 
 /// An element of GF(256). Every byte is one.
 #[derive(Clone, Copy, PartialEq, Eq, Debug)]
@@ -15,19 +18,12 @@ pub struct Byte {
     ghost below: { n < 256 },
 }
 
-// The product of two bytes, by a bit of `b` at each turn: x is a times the power of t that has come.
+// The product of two bytes: its logarithm is the sum of theirs.
 fn product(a: u8, b: u8) -> u8
     ensures is_product { result ≡ bytewise a b }
 {
-    let mut sum = 0;
-    let mut x = a;
-    let mut y = b;
-    for _ in 0..8u8 {
-        sum ^= y % 2 * x;
-        x = (x % 128 * 2) ^ (x / 128 * 27);
-        y /= 2;
-    }
-    sum
+    let sum = LOGARITHMS[usize::from(a)] + LOGARITHMS[usize::from(b)];
+    POWERS[usize::from(sum)]
 }
 
 impl From<u8> for Byte {
@@ -69,14 +65,9 @@ impl Field for Byte {
         if self.n == 0 {
             return None;
         }
-        // The power 254, as the product of the powers 2, 4, .. 128.
-        let mut r = 1;
-        let mut s = self.n;
-        for _ in 0..7u8 {
-            s = product(s, s);
-            r = product(r, s);
-        }
-        Some(Byte::from(r))
+        // A power and its inverse multiply to the power 255, which is one.
+        let rest = 255 - LOGARITHMS[usize::from(self.n)];
+        Some(Byte::from(POWERS[usize::from(rest)]))
     }
 
     fn same(self, other: Byte) -> bool {

@@ -1,19 +1,17 @@
-use Rattle.std.proofs.Common.{refl, sym, ◌∙◌, arith}
+use Rattle.std.proofs.Common.{◌<◌, sym, ap, ap₂, subst, ◌∙◌, arith}
 use Rattle.byte.specs.Product.{product}
-use Rattle.byte.specs.Bytes.{bit_lt, half_raised_lt}
-use Rattle.byte.proofs.Turns.{turn, ends}
+use Rattle.byte.proofs.Looked.{exp, log_at_most, sum_within, product_looked}
 use Rattle.byte.proofs.product.Goals as goal
 
-pub overflow_mul-sum : goal.overflow_mul-sum
-overflow_mul-sum c = record { fits = bit_lt c.loop.y c.loop.x c.loop.invariant.0 }
+pub overflow_add-sum : goal.overflow_add-sum
+overflow_add-sum c =
+    let sum = sum_within (log_at_most c.from.result (omega arith)) (log_at_most c.from-2.result (omega arith)) in
+    record { fits = omega arith }
 
-pub loop-init : goal.loop-init
-unfolding product
-loop-init c = (omega arith, refl)
-
-pub loop-preserved : goal.loop-preserved
-loop-preserved c =
-    (half_raised_lt c.loop.x c.loop.invariant.0, turn c.loop.counter c.loop.sum c.loop.x c.loop.y (omega arith) c.loop.invariant.0 ∙ c.loop.invariant.1)
+pub bounds-from-3 : goal.bounds-from-3
+bounds-from-3 c =
+    subst (λ n. n < 1019) (sym c.from-3.ensures) (sum_within (log_at_most c.from.result (omega arith)) (log_at_most c.from-2.result (omega arith)))
 
 pub returns : goal.returns
-returns c = record { is_product = sym (ends c.loop.counter c.loop.sum c.loop.x c.loop.y (omega arith)) ∙ c.loop.invariant.1 }
+returns c =
+    record { is_product = ap exp c.from-3.ensures ∙ product_looked c.from.result c.from-2.result (omega arith) (omega arith) ∙ ap₂ product c.from.ensures c.from-2.ensures }
