@@ -1,4 +1,4 @@
-//! Tests of the fields on worked examples: products, inverses, and codes at the edge.
+//! Tests of the fields: worked products, inverses, and codes at the edge, and every product of two bytes by division.
 #![tactic(auto)]
 
 #[cfg(test)]
@@ -65,6 +65,49 @@ mod tests {
         );
         assert_eq!(rt; inverted::<Byte>(0x53), Some(0xca));
         check_codes::<Byte>(&rt, 256, &[0, 1, 2, 0x53, 0x80, 254, 255])
+    }
+
+    // The product of two polynomials over GF(2), below the power 8: a sum of shifts of the first.
+    fn shifts_summed(a: u64, b: u64) -> u64 {
+        let mut sum = 0;
+        for i in 0..8u8 {
+            if b >> i & 1 == 1 {
+                sum ^= a << i;
+            }
+        }
+        sum
+    }
+
+    // What is left of a polynomial by t^8 + t^4 + t^3 + t + 1, from its power 14 down.
+    fn divided(whole: u64) -> u64 {
+        let mut left = whole;
+        for i in 0..7u8 {
+            if left >> (14 - i) & 1 == 1 {
+                left ^= 0x11b << (6 - i);
+            }
+        }
+        left
+    }
+
+    // Checks the product of a byte with each byte, and its inverse.
+    fn check_products(rt: &impl Abort, a: u8) {
+        let x = Byte::from(a);
+        for b in 0..=255u8 {
+            let product = divided(shifts_summed(u64::from(a), u64::from(b)));
+            assert_eq!(rt; x.mul(Byte::from(b)).code(), product);
+        }
+        match x.inverse() {
+            None => assert_eq!(rt; a, 0),
+            Some(y) => assert_eq!(rt; divided(shifts_summed(u64::from(a), y.code())), 1),
+        }
+    }
+
+    #[test]
+    fn all_products_of_bytes(rt: HostRuntime) -> Result<(), Fail> {
+        for a in 0..=255u8 {
+            check_products(&rt, a);
+        }
+        Ok(())
     }
 
     #[test]
