@@ -19,6 +19,9 @@ pub fn dot<F: Field>(row: &[F], ys: &[F], column: usize, step: usize) -> F
     sum
 }
 
+// Row times matrix and matrix times column are two functions: one for both would take two strides, of which only (1, n)
+// and (n, 1) are meant, and would promise neither product by name.
+
 /// Writes to `to` the row times the matrix of as many rows and columns.
 pub fn row_times_matrix<F: Field>(row: &[F], matrix: &[F], to: &mut [F])
     requires square { length matrix.now ≡ length row.now * length row.now }
@@ -61,15 +64,21 @@ pub fn scale_row<F: Field>(row: &mut [F], factor: F)
     }
 }
 
+/// Fills the row with zero.
+// Not `fill`: it asks that cloning the element cannot fail and gives it again, which is not known of every field.
+pub fn clear_row<F: Field>(to: &mut [F])
+    ensures zeros_written { RowOf F.field F.value (length to.old) (λ _. F.field.zero) to.new }
+{
+    let zero = F::zero();
+    for x in to.iter_mut() {
+        *x = zero;
+    }
+}
+
 /// The first column of the row that is not zero.
 pub fn first_nonzero<F: Field>(row: &[F]) -> Option<usize>
     ensures first_or_all_zero { MatchOption result (Agree (length row.now) (at F.field F.value row.now) (λ _. F.field.zero)) (λ p. FirstNonzero F.field (length row.now) (at F.field F.value row.now) p) }
 {
     let zero = F::zero();
-    for (j, x) in row.iter().enumerate() {
-        if !x.same(zero) {
-            return Some(j);
-        }
-    }
-    None
+    row.iter().position(|x| !x.same(zero))
 }
