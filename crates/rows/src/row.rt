@@ -19,9 +19,6 @@ pub fn dot<F: Field>(row: &[F], ys: &[F], column: usize, step: usize) -> F
     sum
 }
 
-// Row times matrix and matrix times column are two functions: one for both would take two strides, of which only (1, n)
-// and (n, 1) are meant, and would promise neither product by name.
-
 /// Writes to `to` the row times the matrix of as many rows and columns.
 pub fn row_times_matrix<F: Field>(row: &[F], matrix: &[F], to: &mut [F])
     requires square { length matrix.now ≡ length row.now * length row.now }
@@ -34,6 +31,7 @@ pub fn row_times_matrix<F: Field>(row: &[F], matrix: &[F], to: &mut [F])
 }
 
 /// Writes to `to` the matrix of as many rows and columns times the column.
+// Not one with the above: it would take two strides, of which only (1, n) and (n, 1) are meant, and name neither product.
 pub fn matrix_times_column<F: Field>(matrix: &[F], column: &[F], to: &mut [F])
     requires square { length matrix.now ≡ length column.now * length column.now }
     requires as_long { length to.old ≡ length column.now }
