@@ -30,7 +30,7 @@ use Rattle.elimination.specs.Elimination.{NewRow}
 use Rattle.elimination.proofs.Updates.{updated, updated_here, updated_other}
 use Rattle.elimination.proofs.Bases.{basis_same, basis_grow}
 use Rattle.elimination.proofs.Remainders.{echelon_same, new_same, new_one}
-use Rattle.spanning.specs.Plan.{vector_at, coefficients_at}
+use Rattle.spanning.specs.Places.{vector_at, coefficients_at}
 use Rattle.leading.specs.Tracking.{Tracks, Bare, Tracked, Combination, NewTracked, Combines, Extends}
 use Rattle.leading.specs.Units.{unit}
 use Rattle.spanning.specs.Views.{columns_of, Spanned}

@@ -10,7 +10,7 @@ use Rattle.series.specs.Tables.{Table, row, Agree}
 use Rattle.series.specs.Projecting.{seen, FreshSeen}
 use Rattle.rows.specs.Memory.{row_at, square_at}
 use Rattle.rows.specs.Seen.{table_of}
-use Rattle.spanning.specs.Plan.{vector_at, coefficients_at}
+use Rattle.spanning.specs.Places.{vector_at, coefficients_at}
 use Rattle.spanning.specs.Views.{columns_of, Spanned}
 use Rattle.leading.specs.Tracking.{Tracked}
 use Rattle.leading.specs.declared.view.View.{View}

@@ -1,10 +1,10 @@
 //! The forward pass: the leading words, found in order through the spanning columns, and the coefficients of each followed by
 //! each letter.
-ghost use Rattle.std.specs.Prelude.{◌≡◌, [], ℕ, ◌+◌, ◌*◌, ◌<◌, ◌≤◌, List, length};
+ghost use Rattle.std.specs.Prelude.{◌≡◌, [], ◌+◌, ◌*◌, ◌<◌, ◌≤◌, List, length};
 ghost use Rattle.series.specs.Tables.{dot as product, move, Agree};
 ghost use Rattle.rows.specs.Memory.{at, row_at, Written};
 ghost use Rattle.rows.specs.Seen.{table_of};
-ghost use Rattle.spanning.specs.Plan.{vector_at};
+ghost use Rattle.spanning.specs.Places.{vector_at};
 ghost use Rattle.spanning.specs.Views.{columns_of, Spanned};
 ghost use Rattle.leading.specs.Tracking.{Bare};
 ghost use Rattle.leading.specs.Forward.{viewed, Trying, Walked, Finished};

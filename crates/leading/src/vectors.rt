@@ -26,8 +26,9 @@ pub fn negate_row<F: Field>(row: &[F], to: &mut [F])
     requires as_long { length to.old ≡ length row.now }
     ensures opposites_written { RowOf F.field F.value (length row.now) (λ j. F.field.opposite (at F.field F.value row.now j)) to.new }
 {
-    for (j, x) in to.iter_mut().enumerate() {
-        *x = row[j].neg();
+    to.copy_from_slice(row);
+    for x in to.iter_mut() {
+        *x = x.neg();
     }
 }
 

@@ -8,6 +8,7 @@ use rows::table::TableRef;
 pub struct View<'a, F> {
     pub table: TableRef<'a, F>,
     pub columns: &'a [F],
+    // The count beside the slice: columns of 16 would be arrays of F, which a generic struct has none of.
     pub count: usize,
     ghost few: { count ≤ 16 },
     ghost room: { 256 ≤ length columns.now },

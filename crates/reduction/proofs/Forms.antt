@@ -11,7 +11,7 @@ use Rattle.rows.proofs.Memory.{frame_below}
 use Rattle.rows.proofs.Splits.{at_front, at_back}
 use Rattle.rows.proofs.Parts.{written_range}
 use Rattle.elimination.proofs.Offsets.{entry_before, row_before}
-use Rattle.spanning.specs.Plan.{vector_at, coefficients_at}
+use Rattle.spanning.specs.Places.{vector_at, coefficients_at}
 use Rattle.leading.specs.Units.{unit}
 use Rattle.reduction.specs.Result.{form_of}
 

@@ -9,7 +9,7 @@ use Rattle.rows.specs.Memory.{row_at}
 use Rattle.rows.specs.Layout.{table_at}
 use Rattle.rows.proofs.Sums.{dot_same}
 use Rattle.reduction.specs.Promises.{SameWeights, Least, AllZero}
-use Rattle.spanning.specs.Plan.{coefficients_at}
+use Rattle.spanning.specs.Places.{coefficients_at}
 use Rattle.spanning.specs.Views.{columns_of}
 use Rattle.leading.specs.declared.view.View.{View}
 use Rattle.leading.specs.Forward.{viewed, sight, Finished}

@@ -3,7 +3,7 @@ use Rattle.std.specs.Prelude.{ℕ, List}
 use Rattle.field.specs.FiniteField.{FiniteField}
 use Rattle.series.specs.Tables.{Table, dot}
 use Rattle.rows.specs.Memory.{row_at}
-use Rattle.spanning.specs.Plan.{vector_at, coefficients_at}
+use Rattle.spanning.specs.Places.{vector_at, coefficients_at}
 use Rattle.leading.specs.Units.{unit}
 
 -- n states, one for each leading word of T: the first is the start, their coefficients, which ks holds, are the matrices' rows, and their weights, by their rows, which rs holds, the end column

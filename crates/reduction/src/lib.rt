@@ -37,8 +37,8 @@ fn reduce_into<F: Field>(form: &mut [F], rest: &mut [F], table: TableRef<'_, F>)
         count,
     };
     let found = leading_words(rows, tracked, coefficients, &view);
-    let size = Shape::new(found, table.letters()).size();
-    write_form(&mut form[..size], found, table, rows, coefficients);
+    let shape = Shape::new(found, table.letters());
+    write_form(&mut form[..shape.size()], shape, table, rows, coefficients);
     found
 }
 

@@ -4,14 +4,14 @@ ghost use Rattle.series.specs.Tables.{dot as product, SameTable, Agree};
 ghost use Rattle.rows.specs.Memory.{at, row_at, square_at};
 ghost use Rattle.rows.specs.Layout.{table_size, table_at};
 ghost use Rattle.rows.specs.Seen.{table_of, RowOf, SquareOf};
-ghost use Rattle.spanning.specs.Plan.{vector_at, coefficients_at};
+ghost use Rattle.spanning.specs.Places.{vector_at, coefficients_at};
 ghost use Rattle.reduction.specs.Result.{form_of};
 
 use field::Field;
 use leading::forward::COEFFICIENTS;
 use leading::vectors::unit_row;
 use rows::row::dot;
-use rows::table::TableRef;
+use rows::table::{Shape, TableRef};
 use spanning::WIDTH;
 
 // Writes the matrix of one letter, of n rows and columns: its rows are the coefficients of each leading word followed by the
@@ -30,13 +30,14 @@ fn write_matrix<F: Field>(matrix: &mut [F], n: usize, letter: usize, coefficient
 }
 
 // Writes the matrices of all letters, one after another.
-fn write_matrices<F: Field>(matrices: &mut [F], n: usize, letters: usize, coefficients: &[F])
-    requires small { (n ≤ 16) × (letters ≤ 6) }
-    requires whole { length matrices.old ≡ letters * (n * n) }
+fn write_matrices<F: Field>(matrices: &mut [F], shape: Shape, coefficients: &[F])
+    requires whole { length matrices.old ≡ shape.letters * (shape.states * shape.states) }
     requires coefficients_within { 2048 ≤ length coefficients.now }
-    ensures matrices_written { (a : ℕ) → 1 ≤ a → a ≤ letters → (i : ℕ) → i < n → Agree n (square_at F.field F.value matrices.new ((a - 1) * (n * n)) n i) (row_at F.field F.value coefficients.now (coefficients_at i a)) }
+    ensures matrices_written { (a : ℕ) → 1 ≤ a → a ≤ shape.letters → (i : ℕ) → i < shape.states → Agree shape.states (square_at F.field F.value matrices.new ((a - 1) * (shape.states * shape.states)) shape.states i) (row_at F.field F.value coefficients.now (coefficients_at i a)) }
 {
-    for letter in 1..=letters {
+    let n = shape.states;
+    // By the letter's number: what a loop over chunks writes is not known.
+    for letter in 1..=shape.letters {
         let from = (letter - 1) * (n * n);
         write_matrix(&mut matrices[from..from + n * n], n, letter, coefficients);
     }
@@ -54,23 +55,24 @@ fn write_end<F: Field>(to: &mut [F], rows: &[F], end: &[F])
     }
 }
 
-/// Writes the table that n leading words of `table`, their coefficients and their weights are.
+/// Writes the table of this shape that leading words of `table`, one for each state, their coefficients and their weights are.
 pub fn write_form<F: Field>(
     form: &mut [F],
-    n: usize,
+    shape: Shape,
     table: TableRef<'_, F>,
     rows: &[F],
     coefficients: &[F],
 )
-    requires few { n ≤ 16 }
-    requires whole { length form.old ≡ table_size n table.shape.letters }
+    requires same_letters { shape.letters ≡ table.shape.letters }
+    requires whole { length form.old ≡ table_size shape.states shape.letters }
     requires rows_within { 256 ≤ length rows.now }
     requires coefficients_within { 2048 ≤ length coefficients.now }
-    ensures form_written { SameTable (table_at F.field F.value form.new 0 n table.entry.shape.letters) (form_of F.field F.value (table_of F.field F.value table.entry) n rows.now coefficients.now) }
+    ensures form_written { SameTable (table_at F.field F.value form.new 0 shape.states table.entry.shape.letters) (form_of F.field F.value (table_of F.field F.value table.entry) shape.states rows.now coefficients.now) }
 {
+    let n = shape.states;
     let (start, rest) = form.split_at_mut(n);
-    let (matrices, end) = rest.split_at_mut(table.letters() * (n * n));
+    let (matrices, end) = rest.split_at_mut(shape.letters * (n * n));
     unit_row(start, 0);
-    write_matrices(matrices, n, table.letters(), coefficients);
+    write_matrices(matrices, shape, coefficients);
     write_end(end, rows, table.end());
 }

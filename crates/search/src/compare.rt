@@ -14,7 +14,7 @@ use walk::walk::{try_empty, try_rest};
 const ECHELON: usize = 2048;
 
 /// What the comparison of two tables answers.
-#[derive(Clone, Copy)]
+#[derive(Clone, Copy, Debug, PartialEq, Eq)]
 pub enum Comparison {
     /// All words weigh alike: how many words were tried, and how many kept.
     Alike {
@@ -41,7 +41,7 @@ pub fn compare<F: Field>(work: &mut [F], pair: Pair<'_, F>) -> Comparison
     let (rows, echelon) = work.split_at_mut(ECHELON);
     let letters = pair.left.letters();
     let mut walk = Walk::new();
-    if let Some(weights) = try_empty(rows, echelon, &mut walk, pair) {
+    if let Err(weights) = try_empty(rows, echelon, &mut walk, pair) {
         return Comparison::Differs {
             word: empty_word(),
             tried: 1,
@@ -49,7 +49,7 @@ pub fn compare<F: Field>(work: &mut [F], pair: Pair<'_, F>) -> Comparison
             right: weights.right,
         };
     }
-    if let Some(f) = try_rest(rows, echelon, &mut walk, pair) {
+    if let Err(f) = try_rest(rows, echelon, &mut walk, pair) {
         return Comparison::Differs {
             word: spell(&walk, f.last),
             tried: 1 + f.last.parent * letters + usize::from(f.last.letter),

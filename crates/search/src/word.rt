@@ -1,5 +1,5 @@
 //! The reported word, spelt out from the links of the kept words.
-ghost use Rattle.std.specs.Prelude.{◌≡◌, ℕ, ◌≤◌, [], ◌∷◌, ◌++◌};
+ghost use Rattle.std.specs.Prelude.{ℕ, [], ◌∷◌, ◌++◌};
 ghost use Rattle.series.specs.Words.{Word};
 ghost use Rattle.walk.specs.Walking.{kept, Linked};
 ghost use Rattle.search.specs.Spelling.{Spellable, Spells};
@@ -8,7 +8,7 @@ use walk::links::{Link, Walk};
 
 /// A word of at most 31 letters; the places behind them are 0.
 // No vector of fixed room: a verdict's record has 31 places with zeros behind the letters, and a comparison can be copied.
-#[derive(Clone, Copy)]
+#[derive(Clone, Copy, Debug, PartialEq, Eq)]
 pub struct ReportedWord {
     pub length: usize,
     pub letters: [u8; 31],
@@ -33,7 +33,7 @@ pub fn spell(walk: &Walk, last: Link) -> ReportedWord
     letters[0] = last.letter;
     let mut length = 1;
     let mut j = last.parent;
-    // each link tells only the next one, so that no range or iterator of std goes through them
+    // `successors` is no plainer: a loop over it needs `take(31)` to have an end, a function for its step, and `length` all the same
     while j > 0 {
         let link = walk.links[j];
         letters[length] = link.letter;

@@ -21,7 +21,7 @@ use Rattle.elimination.proofs.Updates.{updated, updated_here, updated_other}
 use Rattle.elimination.proofs.Bases.{basis_same, basis_grow}
 use Rattle.elimination.proofs.Remainders.{nothing_same, new_same, new_one}
 use Rattle.elimination.proofs.Offsets.{entry_before}
-use Rattle.spanning.specs.Plan.{vector_at}
+use Rattle.spanning.specs.Places.{vector_at}
 use Rattle.spanning.specs.Views.{columns_of, Spanned}
 use Rattle.spanning.specs.Backward.{Covered, ColumnsHeld, ColumnDueBy}
 use Rattle.spanning.proofs.Pushes.{push_len, push_old, push_here, each_more}
@@ -74,9 +74,6 @@ module _ {F V : Type 0} (K : FiniteField V) (v : F → V) (T : Table V) (few_sta
         ones = λ b l. k.high (b * n + pivot ps b) (entry_before b n (pivot ps b) count l (s.basis.stairs.within b l)) ∙ s.ones b l;
         end_covered = s.end_covered;
       }
-
-  pub due_moved : (i a count : ℕ) (ps : List ℕ) (cs es cs' es' : List F) → Kept count cs es cs' es' → ColumnDueBy K v T i a count ps cs es → ColumnDueBy K v T i a count ps cs' es'
-  due_moved i a count ps cs es cs' es' k g = record { words = g.words; held = held_same count g.words ps cs es cs' es' k g.held; few = g.few; upto = g.upto; past = g.past; here = g.here }
 
   -- the column is a combination of those found
   pub due_skip : (i a count : ℕ) (ps : List ℕ) (cs es cs' es' : List F) (g : ColumnDueBy K v T i a count ps cs es) → Kept count cs es cs' es' → NothingLeft K n count (rows es) (pivot ps) (column K T (a ∷ g.words i)) → ColumnDueBy K v T i (a + 1) count ps cs' es'

@@ -7,7 +7,7 @@ use Rattle.series.specs.Families.{Of}
 use Rattle.series.specs.EliminationProgress.{Basis}
 use Rattle.series.specs.Tables.{Table, column, Agree}
 use Rattle.rows.specs.Memory.{row_at, square_at}
-use Rattle.spanning.specs.Plan.{vector_at}
+use Rattle.spanning.specs.Places.{vector_at}
 
 module _ {F V : Type 0} (K : FiniteField V) (value : F → V) (T : Table V) where
   -- the column of the word u is a combination of those of the first n words

@@ -1,3 +1,3 @@
-pub mod Plan
+pub mod Places
 pub mod Views
 pub mod Backward

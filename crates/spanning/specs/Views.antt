@@ -4,7 +4,7 @@ use Rattle.field.specs.FiniteField.{FiniteField}
 use Rattle.series.specs.Tables.{Table}
 use Rattle.series.specs.Projecting.{Spanning}
 use Rattle.rows.specs.Memory.{row_at}
-use Rattle.spanning.specs.Plan.{vector_at}
+use Rattle.spanning.specs.Places.{vector_at}
 
 module _ {F V : Type 0} (K : FiniteField V) (value : F → V) where
   -- the columns that a slice holds

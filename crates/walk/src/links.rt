@@ -1,5 +1,5 @@
 //! The kept words, each noted by its link to an earlier one.
-ghost use Rattle.std.specs.Prelude.{◌≡◌, ◌<◌, [], length};
+ghost use Rattle.std.specs.Prelude.{◌≡◌, ◌<◌, length};
 
 use arrayvec::ArrayVec;
 

@@ -13,6 +13,7 @@ pub struct Pair<'a, F> {
     ghost same_letters: { right.shape.letters ≡ left.shape.letters },
 }
 
+// By hand, as Copy below: over a ghost field of a generic struct the checker refuses a derive of Clone.
 impl<'a, F> Clone for Pair<'a, F> {
     ghost is_clone = { λ p r. r ≡ p };
 
@@ -26,7 +27,7 @@ impl<'a, F> Clone for Pair<'a, F> {
 impl<'a, F> Copy for Pair<'a, F> {}
 
 /// The codes of two weights.
-#[derive(Clone, Copy)]
+#[derive(Clone, Copy, Debug, PartialEq, Eq)]
 pub struct Weights {
     pub left: u64,
     pub right: u64,

@@ -16,10 +16,10 @@ returns-clause-reduced_form g c = λ behind.
     let rs = c.leading_words-found.new.rows in
     let ks = c.leading_words-found.new.coefficients in
     let xs = c.write_form.new.form in
-    let rest = drop c.size-size.result a.form.now in
-    let size = c.size-size.result in
+    let rest = drop c.size.result a.form.now in
+    let size = c.size.result in
     let len : length xs ≡ size = c.write_form.auto.form ∙ length-take-le size a.form.now (omega arith) in
-    let sized : size ≡ table_size n T.letters = c.size-size.ensures.is_table_size ∙ ap₂ table_size c.new.ensures.of_states (c.new.ensures.of_letters ∙ c.letters.ensures.told) in
+    let sized : size ≡ table_size n T.letters = c.size.ensures.is_table_size ∙ ap₂ table_size c.new-shape.ensures.of_states (c.new-shape.ensures.of_letters ∙ c.letters.ensures.told) in
     let whole : table_size n T.letters ≤ length xs = omega (arith, len, sized) in
     reduced_written K v _ n 0 rs ks (xs ++ rest ++ behind) c.leading_words-found.ensures.finished
-    (table_front K v n T.letters (form_of K v T n rs ks) (xs ++ rest) behind (omega (arith, whole, length-append xs rest)) (table_front K v n T.letters (form_of K v T n rs ks) xs rest whole c.write_form.ensures.form_written))
+    (table_front K v n T.letters (form_of K v T n rs ks) (xs ++ rest) behind (omega (arith, whole, length-append xs rest)) (table_front K v n T.letters (form_of K v T n rs ks) xs rest whole (rw (c.new-shape.ensures.of_states) at c.write_form.ensures.form_written)))

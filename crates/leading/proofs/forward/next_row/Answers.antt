@@ -5,7 +5,7 @@ use Rattle.rows.specs.Memory.{at, row_at, square_at, Written}
 use Rattle.rows.specs.Seen.{RowOf}
 use Rattle.rows.proofs.Sums.{dot_same}
 use Rattle.rows.proofs.Parts.{row_product, row_before, written_behind}
-use Rattle.spanning.specs.Plan.{vector_at}
+use Rattle.spanning.specs.Places.{vector_at}
 use Rattle.spanning.specs.Views.{columns_of}
 use Rattle.leading.specs.Forward.{viewed}
 use Rattle.leading.proofs.forward.next_row.Goals as goal

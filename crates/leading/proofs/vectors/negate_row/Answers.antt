@@ -1,9 +1,14 @@
-use Rattle.std.proofs.Common.{ap, ◌∙◌, arith}
+use Rattle.std.proofs.Common.{ap, arith}
+use Rattle.rows.specs.Memory.{at}
 use Rattle.rows.proofs.Memory.{at_read}
 use Rattle.rows.proofs.Slices.{filled_more}
 use Rattle.leading.proofs.vectors.negate_row.Goals as goal
 
-pub loop-j-preserved : goal.loop-j-preserved
-loop-j-preserved g c =
+pub loop-x-preserved : goal.loop-x-preserved
+loop-x-preserved g c =
     let K = g.F.Field.field in let v = g.F.Field.value in
-    filled_more K v c.neg.result c.loop-j.invariant (omega arith) (c.neg.ensures.is_opposite ∙ ap K.opposite (at_read K v c.args.row.now c.loop-j.j c.index-row-j.result (omega arith) c.index-row-j.is))
+    let f = c.loop-x.invariant in
+    let x = at_read K v c.loop-x.to c.loop-x.x-index c.x-item.result (omega arith) c.x-item.is in
+    let was = f.rest c.loop-x.x-index (omega arith) in
+    let copied = ap (λ xs. at K v xs c.loop-x.x-index) c.copy_from_slice.ensures.after in
+    filled_more K v c.neg.result f (omega arith) (cc)

@@ -2,7 +2,7 @@ use Rattle.std.proofs.Common.{◌+◌, length, refl, ap, ◌∙◌, arith}
 use Rattle.rows.specs.Memory.{at}
 use Rattle.rows.proofs.Sums.{dot_same}
 use Rattle.rows.proofs.Slices.{filled_more, dot_part}
-use Rattle.spanning.specs.Plan.{vector_at}
+use Rattle.spanning.specs.Places.{vector_at}
 use Rattle.reduction.proofs.result.write_end.Goals as goal
 
 pub loop-i-preserved : goal.loop-i-preserved

@@ -2,7 +2,7 @@ use Rattle.std.proofs.Common.{length}
 use Rattle.series.specs.Tables.{dot}
 use Rattle.rows.specs.Memory.{at, row_at}
 use Rattle.rows.proofs.Slices.{Filled}
-use Rattle.spanning.specs.Plan.{vector_at}
+use Rattle.spanning.specs.Places.{vector_at}
 use Rattle.reduction.proofs.result.write_end.Given as goal
 
 abbrev pub invariant-loop-i : goal.invariant-loop-i

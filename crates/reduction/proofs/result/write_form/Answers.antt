@@ -3,7 +3,7 @@ use Rattle.series.specs.Tables.{dot}
 use Rattle.rows.specs.Memory.{at, row_at}
 use Rattle.rows.specs.Seen.{table_of, RowOf}
 use Rattle.rows.proofs.Sums.{dot_same}
-use Rattle.spanning.specs.Plan.{vector_at}
+use Rattle.spanning.specs.Places.{vector_at}
 use Rattle.leading.specs.Units.{unit}
 use Rattle.reduction.proofs.Forms.{form_written}
 use Rattle.reduction.proofs.result.write_form.Goals as goal
@@ -12,11 +12,11 @@ pub returns : goal.returns
 returns g c =
     let K = g.F.Field.field in let v = g.F.Field.value in
     let a = c.args in
-    let n = a.n in
+    let n = a.shape.states in
     let T = table_of K v a.table in
     let first = c.split_at_mut-start in
     let second = c.split_at_mut-matrices in
-    let letters : c.letters.result ≡ T.letters = c.letters.ensures.told in
+    let letters : a.shape.letters ≡ T.letters = c.requires.same_letters in
     let long : length second.result.0.now ≡ T.letters * (n * n) = second.ensures.front_len ∙ ap (λ k. k * (n * n)) letters in
     let start : RowOf K v n (unit K 0) c.unit_row.new.to = subst (λ m. RowOf K v m (unit K 0) c.unit_row.new.to) first.ensures.front_len c.unit_row.ensures.unit_written in
     let w = c.write_end.ensures.weights_written in

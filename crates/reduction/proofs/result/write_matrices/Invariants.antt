@@ -1,7 +1,7 @@
 use Rattle.std.proofs.Common.{ℕ, ◌-◌, ◌*◌, ◌<◌, ◌≤◌}
 use Rattle.series.specs.Tables.{Agree}
 use Rattle.rows.specs.Memory.{row_at, square_at}
-use Rattle.spanning.specs.Plan.{coefficients_at}
+use Rattle.spanning.specs.Places.{coefficients_at}
 use Rattle.reduction.proofs.result.write_matrices.Given as goal
 
 abbrev pub invariant-loop-letter : goal.invariant-loop-letter

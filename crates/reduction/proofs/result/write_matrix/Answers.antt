@@ -2,7 +2,7 @@ use Rattle.std.proofs.Common.{◌+◌, sym, refl, subst, arith}
 use Rattle.rows.specs.Memory.{row_at}
 use Rattle.rows.specs.Seen.{RowOf}
 use Rattle.rows.proofs.Slices.{row_part}
-use Rattle.spanning.specs.Plan.{coefficients_at}
+use Rattle.spanning.specs.Places.{coefficients_at}
 use Rattle.reduction.proofs.Forms.{matrix_more}
 use Rattle.reduction.proofs.result.write_matrix.Goals as goal
 

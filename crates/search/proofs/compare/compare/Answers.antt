@@ -6,13 +6,13 @@ use Rattle.walk.proofs.Differences.{difference_refutes, no_difference, few_tried
 use Rattle.search.proofs.Spellings.{reported, spelt_padded}
 use Rattle.search.proofs.compare.compare.Goals as goal
 
-pub returns-in-Some : goal.returns-in-Some
-returns-in-Some g c =
+pub returns-in-Err : goal.returns-in-Err
+returns-in-Err g c =
     let K = g.F.Field.field in let v = g.F.Field.value in
     let S = left_table K v c.args.pair in
     let T = right_table K v c.args.pair in
-    let w = c.in-Some.weights in
-    let d = c.in-Some.ensures.begun_or_found in
+    let w = c.in-Err.weights in
+    let d = c.in-Err.ensures.begun_or_found in
     let s = c.empty_word.ensures.spells_nothing in
     record {
       answer = reported K S T c.empty_word.result [] 1 w.left w.right s d;
@@ -23,21 +23,21 @@ returns-in-Some g c =
 
 pub spell-requires : goal.spell-requires
 spell-requires g c =
-    let f = c.in-Some-try_rest.ensures.through_or_found in
-    let r = c.in-Some-try_rest.f.last in
+    let f = c.in-Err-try_rest.ensures.through_or_found in
+    let r = c.in-Err-try_rest.f.last in
     let few = f.few in
     let short = f.difference.short in
     let long = length-append (f.words r.parent) (r.letter ∷ []) in
     record { spellable = record { words = f.words; linked = f.linked; inside = f.inside; few = omega arith; fits = omega arith } }
 
-pub returns-in-Some-try_rest : goal.returns-in-Some-try_rest
-returns-in-Some-try_rest g c =
+pub returns-in-Err-try_rest : goal.returns-in-Err-try_rest
+returns-in-Err-try_rest g c =
     let K = g.F.Field.field in let v = g.F.Field.value in
     let a = c.args in
     let S = left_table K v a.pair in
     let T = right_table K v a.pair in
-    let f = c.in-Some-try_rest.ensures.through_or_found in
-    let r = c.in-Some-try_rest.f in
+    let f = c.in-Err-try_rest.ensures.through_or_found in
+    let r = c.in-Err-try_rest.f in
     let x = f.words r.last.parent ++ r.last.letter ∷ [] in
     let tried = 1 + r.last.parent * a.pair.left.shape.letters + r.last.letter in
     let s = c.spell.ensures.spells_word f.words f.linked in
