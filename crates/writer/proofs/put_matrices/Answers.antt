@@ -5,6 +5,9 @@ use Rattle.text.proofs.Joins.{rows_fit, part_length}
 use Rattle.writer.proofs.Puts.{cut_codes, lines_next}
 use Rattle.writer.proofs.put_matrices.Goals as goal
 
+pub slice_bounds-row-end : goal.slice_bounds-row-end
+slice_bounds-row-end g c = let h = rows_fit c.loop-j.j (c.args.shape.letters * c.args.shape.states) c.args.shape.states c.loop-j-test.true in omega (arith, c.requires.all)
+
 pub loop-j-preserved : goal.loop-j-preserved
 loop-j-preserved g c =
     let K = g.F.Field.field in
