@@ -11,7 +11,8 @@ use text::theorems::{one_text_one_table, one_verdict};
 pub fn uses_follow_the_book<F: Field>(x: F) -> F
     ensures law { UsesFollowTheBook F.field F.value (λ n m. n + m) (λ r t. r ≤ t) }
 {
-    one_text_one_table(x)
+    one_text_one_table::<F>();
+    x
 }
 
 /// What comes of a call is settled by the definitions: one outcome, and one state after, by value. So is what comes of
@@ -19,5 +20,7 @@ pub fn uses_follow_the_book<F: Field>(x: F) -> F
 pub fn outcomes_are_settled<F: Field>(x: F) -> F
     ensures settled { OutcomesAreSettled F.field F.value 8 }
 {
-    one_verdict(one_text_one_table(x))
+    one_text_one_table::<F>();
+    one_verdict::<F>();
+    x
 }

@@ -23,9 +23,10 @@ pub fn columns(bytes: &[u8], start: Position) -> Result<u64, ColumnFault>
             b'0' if value > 0 || i == LAST => value * 10,
             b'1'..=b'9' if i > 0 => value * 10 + u64::from(*b - b'0'),
             _ => {
+                // `as`: std has no From from usize to u32, and `i` is at most 10
                 let position = Position {
-                    line: start.line,
                     column: start.column + i as u32,
+                    ..start
                 };
                 return Err(ColumnFault { position });
             }
@@ -47,6 +48,7 @@ pub fn put_number(columns: &mut [u8], value: u64)
         columns[i] = if rest == 0 && i < 10 {
             b' '
         } else {
+            // `as`: std has no From from u64 to u8
             b'0' + (rest % 10) as u8
         };
         rest /= 10;

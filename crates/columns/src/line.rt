@@ -17,7 +17,7 @@ pub enum Kind {
 
 /// A letter that no kind of line begins with.
 #[derive(Clone, Copy, Debug, PartialEq, Eq)]
-pub struct UnknownKind(pub char);
+pub struct UnknownKind;
 
 /// The line that is due: of a kind, or none after the last.
 // No `Option<Kind>`: `turn` matches on two plain enums, a case for each pair that may come.
@@ -46,7 +46,7 @@ impl TryFrom<char> for Kind {
             'M' => Ok(Kind::Matrix),
             'E' => Ok(Kind::End),
             'Z' => Ok(Kind::Close),
-            _ => Err(UnknownKind(letter)),
+            _ => Err(UnknownKind),
         }
     }
 }

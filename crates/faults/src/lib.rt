@@ -115,9 +115,9 @@ impl LineFault {
     {
         match self {
             LineFault::Column(fault) => fault.position(),
-            LineFault::Ends(at) => (at.line, at.column),
-            LineFault::Unexpected(at) => (at.line, at.column),
-            LineFault::Unended(at) => (at.line, at.column),
+            LineFault::Ends(at) | LineFault::Unexpected(at) | LineFault::Unended(at) => {
+                (at.line, at.column)
+            }
         }
     }
 
@@ -141,8 +141,7 @@ impl LoadFault {
     {
         match self {
             LoadFault::Line(fault) => fault.position(),
-            LoadFault::Value(at) => (at.line, at.column),
-            LoadFault::Beyond(at) => (at.line, at.column),
+            LoadFault::Value(at) | LoadFault::Beyond(at) => (at.line, at.column),
         }
     }
 

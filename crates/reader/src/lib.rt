@@ -88,6 +88,7 @@ impl Reader<'_> {
         let width = self.rest.len().min(11);
         let (front, rest) = self.rest.split_at(width);
         let value = columns(front, self.position)?;
+        // `as`: std has no From from usize to u32, and `width` is at most 11
         let after = Position {
             column: self.position.column + width as u32,
             ..self.position
@@ -107,7 +108,7 @@ impl Reader<'_> {
     {
         let position = self.position;
         let found = self.number()?;
-        if found < low || found > high {
+        if !(low..=high).contains(&found) {
             return Err(LoadFault::Value(position));
         }
         Ok(found)

@@ -2,5 +2,6 @@
 #![tactic(auto)]
 
 mod lines;
+pub mod matrix;
 pub mod table;
 pub mod theorems;

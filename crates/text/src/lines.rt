@@ -7,6 +7,7 @@ ghost use Rattle.text.specs.Texts.{code_items, table_items};
 ghost use Rattle.text.specs.Rows.{codes_of, row_lines, row_items};
 ghost use Rattle.columns.specs.declared.line.Kind.TheVariants as kind;
 
+use super::matrix::heads;
 use columns::line::Due;
 use faults::LoadFault;
 use field::Field;
@@ -71,6 +72,7 @@ pub fn table_line<F: Field>(reader: &mut Reader<'_>) -> Result<(Shape, Due), Loa
     let order = F::order();
     reader.within(order, order)?;
     reader.newline()?;
+    // `as`: std has no From from u64 to usize
     let shape = Shape {
         states: states as usize,
         letters: letters as usize,
@@ -78,29 +80,26 @@ pub fn table_line<F: Field>(reader: &mut Reader<'_>) -> Result<(Shape, Due), Loa
     Ok((shape, then))
 }
 
-/// Goes over the lines of `count` matrix rows of `n` codes, the first of which is due if there is one; the elements
-/// take their values. The line due after them.
+/// Goes over the lines of all matrix rows of a table of this shape, the first of which is due if there is one; the
+/// elements take their values. The line due after them.
 pub fn matrices<F: Field>(
     reader: &mut Reader<'_>,
     due: Due,
-    n: usize,
-    count: usize,
+    shape: Shape,
     elements: &mut [F],
 ) -> Result<Due, LoadFault>
     requires starts { AtLine reader.old 1000 }
-    requires row_due { due ≡ row_due count }
-    requires states { n ≤ 16 }
-    requires few { count < 1000 }
-    requires some { 0 < count → 0 < n }
-    requires room { length elements.old ≡ count * n }
-    ensures lines_or_stops { MatchResult result (λ then. Went reader.old reader.new (row_lines n (codes_of F.field F.value elements.new) count) (record { line = reader.old.position.line + count; column = 1 }) × (then ≡ Due.End)) (λ f. Stops (row_items F.field n count) reader.old.position (left reader.old) f) }
+    requires row_due { due ≡ row_due (shape.letters * shape.states) }
+    requires room { length elements.old ≡ shape.letters * shape.states * shape.states }
+    ensures lines_or_stops { MatchResult result (λ then. Went reader.old reader.new (row_lines shape.states (codes_of F.field F.value elements.new) (shape.letters * shape.states)) (record { line = reader.old.position.line + shape.letters * shape.states; column = 1 }) × (then ≡ Due.End)) (λ f. Stops (row_items F.field shape.states (shape.letters * shape.states)) reader.old.position (left reader.old) f) }
 {
+    let n = shape.states;
+    let count = shape.letters * n;
     let mut then = due;
     // an index, since after `chunks_exact_mut` nothing is known of the elements
     for j in 0..count {
-        let (letter, row) = ((j / n + 1) as u64, (j % n + 1) as u64);
         let elements = &mut elements[j * n..j * n + n];
-        then = codes_line(reader, then, count - j - 1, &[letter, row], elements)?;
+        then = codes_line(reader, then, count - j - 1, &heads(shape, j), elements)?;
     }
     Ok(then)
 }

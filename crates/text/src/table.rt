@@ -32,7 +32,7 @@ fn body<F: Field>(
     let (start, rest) = elements.split_at_mut(n);
     let (rows, end) = rest.split_at_mut(count * n);
     let row_due = codes_line(reader, due, count, &[], start)?;
-    let end_due = matrices(reader, row_due, n, count, rows)?;
+    let end_due = matrices(reader, row_due, shape, rows)?;
     let close_due = codes_line(reader, end_due, 0, &[], end)?;
     reader.head(close_due, 0)?;
     reader.newline()?;

@@ -62,9 +62,24 @@ pub fn named_texts(rt: HostRuntime, work: &mut [Fermat; 1568]) -> io::Result<()>
     )
 }
 
+/// The text of one state with these columns in its start line.
+fn started(columns: &[u8; 11]) -> [u8; 98] {
+    let mut text = SMALL;
+    text[36..47].copy_from_slice(columns);
+    text
+}
+
+/// The largest code and the number after it in a start line, and a number that begins with 0.
+pub fn start_lines(rt: HostRuntime, work: &mut [Fermat; 1568]) -> io::Result<()> {
+    show(rt, "65536 at start", &started(b"      65536"), work)?;
+    show(rt, "65537 at start", &started(b"      65537"), work)?;
+    show(rt, "01 at start", &started(b"         01"), work)
+}
+
 /// Every front of the text of one state.
 pub fn prefixes(rt: HostRuntime, work: &mut [Fermat; 1568]) -> io::Result<()> {
     let mut tally = Tally::new();
+    // lengths, since no iterator gives the fronts of a slice
     for length in 0..SMALL.len() {
         tally.add(Verdict::on(&SMALL[..length], work));
     }

@@ -5,7 +5,7 @@ mod cases;
 mod numbers;
 mod tally;
 
-use cases::{large_changes, large_table, named_texts, prefixes, small_changes};
+use cases::{large_changes, large_table, named_texts, prefixes, small_changes, start_lines};
 use field::Field;
 use numbers::{largest, refused_columns};
 use residue::Fermat;
@@ -15,6 +15,7 @@ fn main(rt: HostRuntime) -> io::Result<()> {
     let mut work = [Fermat::zero(); 1568];
     let mut text = [0u8; 19600];
     named_texts(rt, &mut work)?;
+    start_lines(rt, &mut work)?;
     prefixes(rt, &mut work)?;
     small_changes(rt, &mut work)?;
     large_table(rt, &mut work, &mut text)?;

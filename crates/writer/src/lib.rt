@@ -11,6 +11,7 @@ ghost use Rattle.text.specs.Rows.{codes_of, row_lines};
 use columns::line::{Kind, put_line};
 use field::Field;
 use rows::table::{Shape, TableRef};
+use text::matrix::heads;
 
 /// Writes a line of the numbers `heads` and then of the elements' codes.
 fn put_codes_line<F: Field>(out: &mut [u8], kind: Kind, heads: &[u64], elements: &[F])
@@ -27,29 +28,24 @@ fn put_table_line<F: Field>(out: &mut [u8], shape: Shape)
     requires room { length out.old ≡ 35 }
     ensures written { out.new ≡ line_of (letter_of Kind.Table) (shape.states ∷ shape.letters ∷ F.field.q ∷ []) }
 {
-    let heads = [shape.states as u64, shape.letters as u64, F::order()];
-    put_codes_line::<F>(out, Kind::Table, &heads, &[]);
+    // `as`: std has no From from usize to u64
+    let sizes = [shape.states as u64, shape.letters as u64, F::order()];
+    put_codes_line::<F>(out, Kind::Table, &sizes, &[]);
 }
 
-/// Writes the lines of `count` matrix rows of `n` elements.
-fn put_matrices<F: Field>(out: &mut [u8], n: usize, count: usize, elements: &[F])
-    requires states { n ≤ 16 }
-    requires few { count < 1000 }
-    requires some { 0 < count → 0 < n }
-    requires all { length elements.now ≡ count * n }
-    requires room { length out.old ≡ count * (24 + 11 * n) }
-    ensures written { out.new ≡ row_lines n (codes_of F.field F.value elements.now) count }
+/// Writes the lines of all matrix rows of a table of this shape.
+fn put_matrices<F: Field>(out: &mut [u8], shape: Shape, elements: &[F])
+    requires all { length elements.now ≡ shape.letters * shape.states * shape.states }
+    requires room { length out.old ≡ shape.letters * shape.states * (24 + 11 * shape.states) }
+    ensures written { out.new ≡ row_lines shape.states (codes_of F.field F.value elements.now) (shape.letters * shape.states) }
 {
+    let n = shape.states;
     let width = 24 + 11 * n;
     // an index, since after `chunks_exact_mut` nothing is known of the bytes
-    for j in 0..count {
-        let heads = [(j / n + 1) as u64, (j % n + 1) as u64];
-        put_codes_line(
-            &mut out[j * width..j * width + width],
-            Kind::Matrix,
-            &heads,
-            &elements[j * n..j * n + n],
-        );
+    for j in 0..shape.letters * n {
+        let row = &elements[j * n..j * n + n];
+        let line = &mut out[j * width..j * width + width];
+        put_codes_line(line, Kind::Matrix, &heads(shape, j), row);
     }
 }
 
@@ -67,7 +63,7 @@ fn put_body<F: Field>(out: &mut [u8], shape: Shape, elements: &[F])
     let (row_lines, out) = out.split_at_mut(count * (24 + 11 * n));
     let (end_line, close_line) = out.split_at_mut(2 + 11 * n);
     put_codes_line(start_line, Kind::Start, &[], start);
-    put_matrices(row_lines, n, count, rows);
+    put_matrices(row_lines, shape, rows);
     put_codes_line(end_line, Kind::End, &[], end);
     put_codes_line::<F>(close_line, Kind::Close, &[], &[]);
 }
