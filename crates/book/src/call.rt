@@ -65,44 +65,19 @@ impl<B: AsSlice<u8>> Call<B> {
                 text: text.as_slice(),
                 to: *to,
             },
-            Call::Sum { first, second, to } => Call::Sum {
-                first: *first,
-                second: *second,
-                to: *to,
-            },
-            Call::Scale { place, code, to } => Call::Scale {
-                place: *place,
-                code: *code,
-                to: *to,
-            },
-            Call::Multiply { first, second, to } => Call::Multiply {
-                first: *first,
-                second: *second,
-                to: *to,
-            },
-            Call::After { place, letter, to } => Call::After {
-                place: *place,
-                letter: *letter,
-                to: *to,
-            },
-            Call::Turn { place, to } => Call::Turn {
-                place: *place,
-                to: *to,
-            },
-            Call::Reduce { place, to } => Call::Reduce {
-                place: *place,
-                to: *to,
-            },
+            &Call::Sum { first, second, to } => Call::Sum { first, second, to },
+            &Call::Scale { place, code, to } => Call::Scale { place, code, to },
+            &Call::Multiply { first, second, to } => Call::Multiply { first, second, to },
+            &Call::After { place, letter, to } => Call::After { place, letter, to },
+            &Call::Turn { place, to } => Call::Turn { place, to },
+            &Call::Reduce { place, to } => Call::Reduce { place, to },
             Call::Weigh { place, word } => Call::Weigh {
                 place: *place,
                 word: word.as_slice(),
             },
-            Call::Compare { first, second } => Call::Compare {
-                first: *first,
-                second: *second,
-            },
-            Call::Write { place } => Call::Write { place: *place },
-            Call::Clear { place } => Call::Clear { place: *place },
+            &Call::Compare { first, second } => Call::Compare { first, second },
+            &Call::Write { place } => Call::Write { place },
+            &Call::Clear { place } => Call::Clear { place },
         }
     }
 }

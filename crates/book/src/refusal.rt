@@ -46,23 +46,13 @@ impl fmt::Display for Refusal {
     ghost output = { λ refusal. Some (refusal_reason refusal) };
 
     fn fmt<W: fmt::Write>(&self, f: &mut fmt::Formatter<W>) -> fmt::Result {
-        match self {
-            Refusal::PlaceOutside => write!(f, "a place is outside 1 to 8"),
-            Refusal::MemoryShort => write!(f, "shelf memory is too short"),
-            Refusal::WorkShort => write!(f, "work memory is too short"),
-            Refusal::PlaceEmpty => write!(f, "a place is empty"),
-            Refusal::LettersDiffer => write!(f, "the letter counts differ"),
-            Refusal::StatesOver => write!(f, "the result has over 16 states"),
-            Refusal::LetterOutside { .. } => write!(f, "a letter is outside the table's letters"),
-            Refusal::CodeOutside => write!(f, "the code is not one of the field's"),
-            Refusal::OutputShort => write!(f, "the output is too short"),
-            Refusal::Unreadable(fault) => write!(f, "{fault}"),
-        }
+        f.write_str(self.reason())
     }
 }
 
 impl Refusal {
     /// The refusal's number, 1 to 15.
+    // The numbers are the product's: the report, the C interface and the programs tell them.
     pub fn number(&self) -> u8
         ensures numbered { result ≡ refusal_number self.now }
     {
@@ -87,6 +77,24 @@ impl Refusal {
         match self {
             Refusal::Unreadable(fault) => fault.position(),
             _ => (0, 0),
+        }
+    }
+
+    /// Why the call is refused, for a person: one reason for each number.
+    pub fn reason(&self) -> &'static str
+        ensures in_words { result.now ≡ refusal_reason self.now }
+    {
+        match self {
+            Refusal::PlaceOutside => "a place is outside 1 to 8",
+            Refusal::MemoryShort => "shelf memory is too short",
+            Refusal::WorkShort => "work memory is too short",
+            Refusal::PlaceEmpty => "a place is empty",
+            Refusal::LettersDiffer => "the letter counts differ",
+            Refusal::StatesOver => "the result has over 16 states",
+            Refusal::LetterOutside { .. } => "a letter is outside the table's letters",
+            Refusal::CodeOutside => "the code is not one of the field's",
+            Refusal::OutputShort => "the output is too short",
+            Refusal::Unreadable(fault) => fault.reason(),
         }
     }
 }

@@ -32,15 +32,16 @@ pub struct Verdict {
     pub length: usize,
     pub first: u64,
     pub second: u64,
+    // Not a vector: the record's form is the product's, 31 places beside a length, and a reported word has no more letters.
     pub letters: [u8; 31],
 }
 
 impl Verdict {
     /// A record to which nothing is written yet.
+    // Not `Default`, which is no plainer: that alike is the kind of such a record is said here, where its name is.
     pub fn blank() -> Verdict
         ensures all_zero { result ≡ unwritten }
     {
-        let letters = [0u8; 31];
         Verdict {
             kind: Kind::Alike,
             tried: 0,
@@ -48,7 +49,7 @@ impl Verdict {
             length: 0,
             first: 0,
             second: 0,
-            letters,
+            letters: [0; 31],
         }
     }
 }

@@ -61,7 +61,7 @@ impl fmt::Display for ColumnFault {
     ghost output = { λ fault. Some (column_reason fault) };
 
     fn fmt<W: fmt::Write>(&self, f: &mut fmt::Formatter<W>) -> fmt::Result {
-        write!(f, "a byte cannot stand in its column")
+        f.write_str(self.reason())
     }
 }
 
@@ -69,12 +69,7 @@ impl fmt::Display for LineFault {
     ghost output = { λ fault. Some (line_reason fault) };
 
     fn fmt<W: fmt::Write>(&self, f: &mut fmt::Formatter<W>) -> fmt::Result {
-        match self {
-            LineFault::Column(fault) => write!(f, "{fault}"),
-            LineFault::Ends(_) => write!(f, "the text ends where a byte is due"),
-            LineFault::Unexpected(_) => write!(f, "another kind of line is due"),
-            LineFault::Unended(_) => write!(f, "the line should end here"),
-        }
+        f.write_str(self.reason())
     }
 }
 
@@ -82,13 +77,7 @@ impl fmt::Display for LoadFault {
     ghost output = { λ fault. Some (load_reason fault) };
 
     fn fmt<W: fmt::Write>(&self, f: &mut fmt::Formatter<W>) -> fmt::Result {
-        match self {
-            LoadFault::Line(fault) => write!(f, "{fault}"),
-            LoadFault::Value(_) => {
-                write!(f, "a number is not the one due or not within its limits")
-            }
-            LoadFault::Beyond(_) => write!(f, "nothing may follow the last line"),
-        }
+        f.write_str(self.reason())
     }
 }
 
@@ -105,6 +94,13 @@ impl ColumnFault {
         ensures numbered { result ≡ column_refusal self.now }
     {
         12
+    }
+
+    /// What is wrong, for a person.
+    pub fn reason(&self) -> &'static str
+        ensures in_words { result.now ≡ column_reason self.now }
+    {
+        "a byte cannot stand in its column"
     }
 }
 
@@ -132,6 +128,18 @@ impl LineFault {
             LineFault::Unended(_) => 14,
         }
     }
+
+    /// What is wrong, for a person.
+    pub fn reason(&self) -> &'static str
+        ensures in_words { result.now ≡ line_reason self.now }
+    {
+        match self {
+            LineFault::Column(fault) => fault.reason(),
+            LineFault::Ends(_) => "the text ends where a byte is due",
+            LineFault::Unexpected(_) => "another kind of line is due",
+            LineFault::Unended(_) => "the line should end here",
+        }
+    }
 }
 
 impl LoadFault {
@@ -153,6 +161,17 @@ impl LoadFault {
             LoadFault::Line(fault) => fault.refusal(),
             LoadFault::Value(_) => 13,
             LoadFault::Beyond(_) => 15,
+        }
+    }
+
+    /// What is wrong, for a person.
+    pub fn reason(&self) -> &'static str
+        ensures in_words { result.now ≡ load_reason self.now }
+    {
+        match self {
+            LoadFault::Line(fault) => fault.reason(),
+            LoadFault::Value(_) => "a number is not the one due or not within its limits",
+            LoadFault::Beyond(_) => "nothing may follow the last line",
         }
     }
 }
