@@ -4,6 +4,7 @@ pub mod Accepting
 mod Standing
 mod Books
 mod Uses
+mod Courses
 mod Staying
 mod Lawful
 mod SameStates

@@ -1,6 +1,6 @@
 -- The law that every use follows. What it turns on, the bound on a reported word and how few states reduce leaves, are arguments, which the contract that
 -- promises the law gives. Assumes nothing.
-use Rattle.std.specs.Prelude.{◌≡◌, ℕ, ◌+◌, ◌<◌, ◌≤◌, ◌≢◌, ◌⊎◌, ◌↔◌, List, map, length, slice_index_or, Ok, Err}
+use Rattle.std.specs.Prelude.{◌≡◌, ℕ, suc, ◌+◌, ◌<◌, ◌≤◌, ◌≢◌, ◌⊎◌, ◌↔◌, List, ◌++◌, map, length, take, drop, slice_get, slice_index_or, Some, Ok, Err}
 use Rattle.field.specs.FiniteField.{FiniteField}
 use Rattle.series.specs.Words.{Word, Over}
 use Rattle.series.specs.Tables.{Table, weight, SameTable}
@@ -10,7 +10,7 @@ use Rattle.book.specs.Shelves.{Entry, empty, filled, Shelf, Lent, State, Opened,
 use Rattle.book.specs.Calls.{Call, reduce, weigh, compare, Among, results}
 use Rattle.book.specs.Verdicts.{kind_number, reported}
 use Rattle.book.specs.Doing.{Does}
-use Rattle.book.specs.Using.{lending, CallAt, Opening, Page, blank, holds, weights_on, page, Book}
+use Rattle.book.specs.Using.{lending, Use, CallAt, Course, Opening, Page, blank, holds, weights_on, page, Book}
 use Rattle.book.specs.Running.{call_in, given, taken_back, Run}
 use Rattle.book.specs.declared.call.Request.{Request}
 use Rattle.book.specs.declared.refusal.Refusal.{Refusal}
@@ -95,16 +95,52 @@ module _ {V : Type 0} (K : FiniteField V) {F : Type 0} (value : F → V) where
     pub lies_on : (p : ℕ) (t : Shelf F) → Untouched p s t
         → (entry t p ≡ entry s p) × ((i : ℕ) (x : F) → begins p ≤ i → i < begins p + table_size (states_of (entry s p)) (letters_of (entry s p)) → slice_index_or t.memory i x ≡ slice_index_or s.memory i x)
 
-  -- requested calls that were made from open are a use, and it follows
-  abbrev pub RunFollows : (ℕ → ℕ → ℕ) → State F → List Request → List Outcome → State F → Type 0
-  RunFollows bound first rs os t = Opened first.shelf → (u : Opening K value (map call_in rs) os t.shelf) × Follows bound (map call_in rs) os t.shelf u
+  -- what holds of what a use's reduce left, for as long as it lies
+  pub record Smallest (Fewest : ℕ → ℕ → Type 0) (R : Table V) : Type 0 where
+    pub reduces : Reduces R
+    -- every other table with its letter count and its weights has at least as many states
+    pub fewest : (T : Table V) → T.letters ≡ R.letters → Alike K R T → Fewest R.states T.states
+    -- and another such with its letter count, also from another use, agrees with it number for number exactly when the two weigh every word alike
+    pub one_form : (S : Table V) → Reduces S → R.letters ≡ S.letters → SameTable R S ↔ Alike K R S
+
+  -- what holds of a use at each of its calls, and at each shelf that it passed
+  pub record FollowsThroughout (bound : ℕ → ℕ → ℕ) (Fewest : ℕ → ℕ → Type 0) (cs : List Call) (os : List Outcome) (s : Shelf F) (u : Opening K value cs os s) : Type 0 where
+    -- the shelves that it passed, told by how many calls were made
+    pub after : ℕ → Shelf F
+    pub course : Course K value u.first cs os s after
+    -- to each the calls before it came, from each the other calls lead to s, and at each it follows
+    pub came : (i : ℕ) → i ≤ length cs → Use K value u.first (take i cs) (take i os) (after i)
+    pub onward : (i : ℕ) → i ≤ length cs → Use K value (after i) (drop i cs) (drop i os) s
+    pub follows : (i : ℕ) (l : i ≤ length cs) → Follows bound (take i cs) (take i os) (after i) (record { first = u.first; opened = u.opened; uses = came i l })
+    -- a) an accepted weigh among the calls answered the code of its word's weight in the book as it then was
+    pub weighed : (i p : ℕ) (w : Word) (a : Answer) → slice_get cs i ≡ Some (weigh p w) → slice_get os i ≡ Some (Ok a) → (B : List (Page V)) → Book K (take i cs) (take i os) B → a ≡ Code (K.code (weights_on K (page K B p) w))
+    -- b) an accepted compare among them told a verdict, which reports of its two tables as they then lay
+    pub compared : (i p q : ℕ) (a : Answer) → slice_get cs i ≡ Some (compare p q) → slice_get os i ≡ Some (Ok a) → (v : Verdict) × (a ≡ Told v) × Reports K bound (table K value (after i) p) (table K value (after i) q) v
+    -- a place is untouched from one shelf to a later one where none of the calls between made or cleared it
+    pub untouched : (p i j : ℕ) → i ≤ j → j ≤ length cs → ((k : ℕ) (c : Call) (o : Outcome) → i ≤ k → k < j → slice_get cs k ≡ Some c → slice_get os k ≡ Some o → ¬ (Changes c o p)) → Untouched p (after i) (after j)
+    -- c) what an accepted reduce among them left is the smallest there is, and the only one, for as long as its place is untouched
+    pub reduced : (i j p to : ℕ) (a : Answer) → i < j → j ≤ length cs → slice_get cs i ≡ Some (reduce p to) → slice_get os i ≡ Some (Ok a) → Untouched to (after (suc i)) (after j) → Smallest Fewest (table K value (after j) to)
+
+  -- requested calls led from the state first, which is open, to t: they are a use that started there, and it follows, where it came to and throughout
+  pub record MadeFromOpen (bound : ℕ → ℕ → ℕ) (Fewest : ℕ → ℕ → Type 0) (first : State F) (rs : List Request) (os : List Outcome) (t : State F) : Type 0 where
+    pub use_of : Opening K value (map call_in rs) os t.shelf
+    pub starts : use_of.first ≡ first.shelf
+    pub follows : Follows bound (map call_in rs) os t.shelf use_of
+    pub throughout : FollowsThroughout bound Fewest (map call_in rs) os t.shelf use_of
+
+  -- so it is wherever requested calls were made from open
+  abbrev pub RunFollows : (ℕ → ℕ → ℕ) → (ℕ → ℕ → Type 0) → State F → List Request → List Outcome → State F → Type 0
+  RunFollows bound Fewest first rs os t = Opened first.shelf → MadeFromOpen bound Fewest first rs os t
 
   -- the law
   pub record UsesFollowTheBook (bound : ℕ → ℕ → ℕ) (Fewest : ℕ → ℕ → Type 0) : Type 0 where
     pub every_use : (cs : List Call) (os : List Outcome) (s : Shelf F) (u : Opening K value cs os s) → Follows bound cs os s u
-    -- requested calls, made one after another from open, are a use
-    pub runs : (first t : State F) (rs : List Request) (os : List Outcome) → Opened first.shelf → Run K value first rs os t → Opening K value (map call_in rs) os t.shelf
-    -- and one that is refused leaves all that was lent as it was
+    pub throughout : (cs : List Call) (os : List Outcome) (s : Shelf F) (u : Opening K value cs os s) → FollowsThroughout bound Fewest cs os s u
+    -- requested calls, made one after another, are calls on one shelf, and from open they are a use
+    pub runs : (first t : State F) (rs : List Request) (os : List Outcome) → Run K value first rs os t → Use K value first.shelf (map call_in rs) os t.shelf
+    -- calls that go on where others came to are one list of calls with them
+    pub joined : (first s t : Shelf F) (cs ds : List Call) (os ps : List Outcome) → Use K value first cs os s → Use K value s ds ps t → Use K value first (cs ++ ds) (os ++ ps) t
+    -- and a requested one that is refused leaves all that was lent as it was
     pub refused_leaves : (s t : State F) (r : Request) (f : Refusal) → Does K value (given s r) (call_in r) (Err f) t → taken_back s r t ≡ s
     -- c) every other table with the letter count and the weights of one that reduce left has at least as many states
     pub fewest : (R : Table V) → Reduces R → (T : Table V) → T.letters ≡ R.letters → Alike K R T → Fewest R.states T.states

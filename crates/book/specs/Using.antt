@@ -1,5 +1,5 @@
 -- Uses of a shelf, and their book. Assumes nothing.
-use Rattle.std.specs.Prelude.{◌≡◌, ℕ, suc, List, [], ◌∷◌, ◌++◌, reverse, take, replicate, slice_index_or, Ok, Err}
+use Rattle.std.specs.Prelude.{◌≡◌, ℕ, suc, List, [], ◌∷◌, ◌++◌, reverse, length, take, replicate, slice_get, slice_index_or, Some, Ok, Err}
 use Rattle.field.specs.FiniteField.{FiniteField}
 use Rattle.series.specs.Words.{Word}
 use Rattle.series.specs.Tables.{Table, weight}
@@ -28,6 +28,20 @@ module _ {V : Type 0} (K : FiniteField V) {F : Type 0} (value : F → V) where
     pub until : Use first (take i cs) (take i os) before
     pub does : Does K value (lending before lent) (slice_index_or cs i c) (slice_index_or os i o) left
     pub with_it : Use first (take (suc i) cs) (take (suc i) os) left.shelf
+
+  -- a call with this outcome, lent anything, leads from one shelf to the other
+  pub record Leads (s : Shelf F) (c : Call) (o : Outcome) (t : Shelf F) : Type 0 where
+    pub lent : Lent
+    pub left : State F
+    pub does : Does K value (lending s lent) c o left
+    pub shelf : left.shelf ≡ t
+
+  -- the shelves that a use passed, told by how many of its calls were made: the first is where it started, each call led from one to the next, and s is the last
+  pub record Course (first : Shelf F) (cs : List Call) (os : List Outcome) (s : Shelf F) (after : ℕ → Shelf F) : Type 0 where
+    pub starts : after 0 ≡ first
+    pub as_many : length os ≡ length cs
+    pub calls : (i : ℕ) (c : Call) (o : Outcome) → slice_get cs i ≡ Some c → slice_get os i ≡ Some o → Leads (after i) c o (after (suc i))
+    pub ends : after (length cs) ≡ s
 
   -- a use that starts from open, with anything in shelf memory, and comes to s
   pub record Opening (cs : List Call) (os : List Outcome) (s : Shelf F) : Type 0 where

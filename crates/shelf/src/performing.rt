@@ -90,7 +90,7 @@ impl Directory {
         ensures as_many_as_fit { result ≡ min (length requests.now) (length outcomes.old) }
         ensures runs { Run F.field F.value (state self.old.entries shelf.old (length work.old) output.old verdict.old) (take result requests.now) (take result outcomes.new) (state self.new.entries shelf.new (length work.new) output.new verdict.new) }
         ensures later_outcomes_kept { drop result outcomes.new ≡ drop result outcomes.old }
-        ensures follows_from_open { RunFollows F.field F.value (λ n m. n + m) (state self.old.entries shelf.old (length work.old) output.old verdict.old) (take result requests.now) (take result outcomes.new) (state self.new.entries shelf.new (length work.new) output.new verdict.new) }
+        ensures follows_from_open { RunFollows F.field F.value (λ n m. n + m) (λ r t. r ≤ t) (state self.old.entries shelf.old (length work.old) output.old verdict.old) (take result requests.now) (take result outcomes.new) (state self.new.entries shelf.new (length work.new) output.new verdict.new) }
         ensures law { UsesFollowTheBook F.field F.value (λ n m. n + m) (λ r t. r ≤ t) }
     {
         // Holds the law that the contract states; nothing is done.
