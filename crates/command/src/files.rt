@@ -1,6 +1,9 @@
 //! Files, read up to a bound.
-ghost use Rattle.std.specs.Prelude.{◌≤◌, vec_len, IfOk};
+ghost use Rattle.std.specs.Prelude.{◌≤◌, vec_len, IfOk, Some};
+ghost use Rattle.anyhow.specs.Error.{HasMessage};
 
+use anyhow::anyhow;
+use std::fmt::Display;
 use std::fs::File;
 use std::io;
 use std::io::{ErrorKind, Read};
@@ -31,6 +34,20 @@ pub fn read_if_there(rt: &HostRuntime, name: &str, most: usize) -> io::Result<Ve
         Err(e) if e.kind() == ErrorKind::NotFound => Ok(Vec::new(rt.alloc())),
         read => read,
     }
+}
+
+/// Tells on standard error what is wrong with a file, and gives what that means as an error.
+pub fn failed<D: Display + Drop>(
+    rt: &HostRuntime,
+    name: &str,
+    wrong: D,
+    meaning: &str,
+) -> anyhow::Error
+    ensures meant { HasMessage (Some meaning.now) result }
+{
+    // Where it cannot be told, neither can the error that is given.
+    let _ = eprintln!(rt; "{name}: {wrong}");
+    anyhow!("{meaning}")
 }
 
 #[cfg(test)]
