@@ -1,21 +1,19 @@
 //! Packs a table: reads its text, reduces it, compares the two, and writes the text of the reduced form.
 #![tactic(auto)]
 
-ghost use Rattle.std.specs.Prelude.{◌*◌, ◌^◌, ◌<◌, IsErr};
-ghost use Rattle.std.specs.Mem.{type_size};
+ghost use Rattle.std.specs.Prelude.{Some, codes};
+ghost use Rattle.anyhow.specs.Error.{HasMessage};
 
 use anyhow::anyhow;
 use book::refusal::Refusal;
 use book::verdict::Kind;
-use byte::Byte;
-use command::VERSION;
-use command::files::read_file;
-use command::offered::Offered;
-use command::wish::{Wish, asked_for, name_or};
+use command::files::{MOST, failed, read_file};
+use command::offered::{Offered, OverField, with_field};
+use command::program::Program;
+use command::wish::name_or;
 use field::Field;
 use packing::pack;
 use packing::packed::Packed;
-use residue::{Bit, Fermat};
 use std::io::Write;
 use std::process::ExitCode;
 use std::{fs, io};
@@ -35,6 +33,12 @@ standard error.
 The status is 0 where the table was packed, and 1 where the text is refused, a
 file cannot be read or written, or the command line is wrong.";
 
+const PACK: Program<'static> = Program {
+    name: "pack",
+    usage: HELP,
+    files: 2,
+};
+
 // Tells what was done.
 fn tell(rt: &HostRuntime, name: &str, q: u64, done: &Packed) -> anyhow::Result<()> {
     eprintln!(rt;
@@ -49,73 +53,67 @@ fn tell(rt: &HostRuntime, name: &str, q: u64, done: &Packed) -> anyhow::Result<(
 }
 
 // Tells where and why a text is refused.
-fn refuse<T>(rt: &HostRuntime, name: &str, refusal: Refusal) -> anyhow::Result<T>
-    ensures refused { IsErr result }
+fn refused(rt: &HostRuntime, name: &str, refusal: Refusal) -> anyhow::Error
+    ensures meant { HasMessage (Some (codes "the text is refused")) result }
 {
     let (line, column) = refusal.position();
-    eprintln!(rt; "{name}: line {line}, column {column}: {refusal}")?;
-    Err(anyhow!("the text is refused"))
+    let wrong = format_args!("line {line}, column {column}: {refusal}");
+    failed(rt, name, wrong, "the text is refused")
 }
 
-// Tells that a file cannot be read, and why.
-fn unread<T>(rt: &HostRuntime, name: &str, e: io::Error) -> anyhow::Result<T>
-    ensures failed { IsErr result }
-{
-    eprintln!(rt; "{name}: {e}")?;
-    Err(anyhow!("the file cannot be read"))
-}
-
-// Packs a text over a field, and writes what came of it.
-fn pack_over<F: Field>(rt: &HostRuntime, text: &[u8], files: &[String]) -> anyhow::Result<()>
-    requires elements_fit { 12544 * type_size F.row < 2 ^ 63 }
-{
-    let name = name_or(files, 0, "table");
-    let mut shelf = [F::zero(); 12544];
-    let mut work = [F::zero(); 8192];
-    let mut output = [0u8; 19593];
-    let done = pack(&mut shelf, &mut work, &mut output, text).or_else(|refusal| refuse(
-        rt, name, refusal,
-    ))?;
-    // By the contract of `pack` neither can be; the text is not written where one is.
-    if done.verdict.kind != Kind::Alike || done.bytes > output.len() {
-        return Err(anyhow!("the packed table weighs some word differently"));
-    }
-    let packed = &output[..done.bytes];
+// Writes the packed text to the second file, or else to standard output.
+fn write(rt: &HostRuntime, files: &[String], packed: &[u8]) -> anyhow::Result<()> {
     match files.get(1) {
-        Some(out) => fs::write(rt, out.as_str(), packed)?,
-        None => rt.stdout().write_all(packed)?,
+        Some(out) => fs::write(rt, out.as_str(), packed)
+            .map_err(|e| failed(rt, out.as_str(), e, "the packed text cannot be written")),
+        None => Ok(rt.stdout().write_all(packed)?),
     }
-    tell(rt, name, F::order(), &done)
+}
+
+// A text that is to be packed over the field that is chosen.
+struct Packing<'a> {
+    rt: &'a HostRuntime,
+    text: &'a [u8],
+    files: &'a [String],
+}
+
+impl OverField for Packing<'_> {
+    type Output = anyhow::Result<()>;
+
+    // What is written and told is no part of the result.
+    ghost gives = { λ q packing done. Unit {0} };
+
+    // Packs the text, and writes what came of it.
+    fn over<F: Field>(self) -> anyhow::Result<()> {
+        let Packing { rt, text, files } = self;
+        let name = name_or(files, 0, "table");
+        let mut shelf = [F::zero(); 12544];
+        let mut work = [F::zero(); 8192];
+        let mut output = [0u8; 19593];
+        let done = pack(&mut shelf, &mut work, &mut output, text)
+            .map_err(|refusal| refused(rt, name, refusal))?;
+        // By the contract of `pack` neither can be; the text is not written where one is.
+        if done.verdict.kind != Kind::Alike || done.bytes > output.len() {
+            return Err(anyhow!("the packed table weighs some word differently"));
+        }
+        write(rt, files, &output[..done.bytes])?;
+        tell(rt, name, F::order(), &done)
+    }
 }
 
 // Reads the text, and packs it over the field that is named, in the command line or else in the text.
 fn work(rt: &HostRuntime, field: Option<Offered>, files: &[String]) -> anyhow::Result<()> {
     let name = name_or(files, 0, "table");
-    let text = read_file(rt, name).or_else(|e| unread(rt, name, e))?;
+    let text = read_file(rt, name, MOST)
+        .map_err(|e| failed(rt, name, e, "the file cannot be read"))?;
     let text = text.as_slice();
-    match field.or(Offered::named_in(text)).unwrap_or(Offered::Fermat) {
-        Offered::Bits => pack_over::<Bit>(rt, text, files),
-        Offered::Bytes => pack_over::<Byte>(rt, text, files),
-        Offered::Fermat => pack_over::<Fermat>(rt, text, files),
-    }
+    let field = field.or(Offered::named_in(text));
+    with_field(
+        field.unwrap_or(Offered::Fermat),
+        Packing { rt, text, files },
+    )
 }
 
-// Does what the command line asks for.
-fn run(rt: &HostRuntime) -> anyhow::Result<()> {
-    match asked_for(rt, 2)? {
-        Wish::Help => println!(rt; "{HELP}")?,
-        Wish::Version => println!(rt; "pack, {VERSION}")?,
-        Wish::Work { field, files } => work(rt, field, files.as_slice())?,
-    }
-    Ok(())
-}
-
-fn main(rt: HostRuntime) -> anyhow::Result<ExitCode> {
-    match run(&rt) {
-        Ok(()) => Ok(ExitCode::SUCCESS),
-        Err(e) => {
-            eprintln!(rt; "pack: {e}")?;
-            Ok(ExitCode::FAILURE)
-        }
-    }
+fn main(rt: HostRuntime) -> io::Result<ExitCode> {
+    PACK.run(&rt, |field, files| work(&rt, field, files.as_slice()))
 }
