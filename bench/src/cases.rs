@@ -1,5 +1,6 @@
 //! The inputs.
 
+use independent::compare::{Verdict, compare};
 use independent::field::Field;
 use independent::making::{any_factor, in_another_basis, random_table, with_unobservable};
 use independent::prng::Random;
@@ -36,9 +37,19 @@ pub fn reading<F: Field>(random: &mut Random, n: usize, k: usize) -> Case {
     Case { first: text::<F>(random, n, k), second: Vec::new() }
 }
 
+/// A table of which n words are kept beside itself.
+fn full<F: Field>(random: &mut Random, n: usize, k: usize) -> Table<F> {
+    loop {
+        let table = random_table::<F>(random, n, k);
+        if matches!(compare(&table, &table), Verdict::Alike { kept, .. } if kept == n) {
+            return table;
+        }
+    }
+}
+
 /// A table of n states in two forms: n words are kept.
 pub fn two_forms<F: Field>(random: &mut Random, n: usize, k: usize) -> Case {
-    let table = random_table::<F>(random, n, k);
+    let table = full::<F>(random, n, k);
     let [first, second] = [0; 2].map(|_| write(&mixed(random, &table)));
     Case { first, second }
 }

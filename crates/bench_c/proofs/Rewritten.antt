@@ -36,6 +36,11 @@ Full : Entry → Type 0
 Full empty = ⊥
 Full (filled n k) = Unit {0}
 
+-- what holds of a count, and of 0 where there is none, holds of what `unwrap_or(0)` gives
+pub counted_or_none : (P : ℕ → Type 0) (r : Result ℕ Refusal) → MatchResult r P (λ _. P 0) → P (result_unwrap_or r 0)
+counted_or_none P (Ok n) h = h
+counted_or_none P (Err e) h = h
+
 module _ {V : Type 0} (K : FiniteField V) {F : Type 0} (value : F → V) (text : List ℕ) (es : List EntryCode) (mem : List F) (w : ℕ) (out : List ℕ) (v : Verdict) (memory : 12544 ≤ length mem) (work : 8192 ≤ w) where
   -- a text that is not loaded is refused
   pub not_loaded : (r : Refusal) → Refuses K (state es mem w out v) (load text 1) r → Rewrites K text out 0 out
