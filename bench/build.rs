@@ -1,4 +1,4 @@
-//! Compiles the plain C++ program, and links it and the verified library.
+//! Compiles the plain C++ program, and links it and the verified library's archives.
 
 use std::env;
 use std::path::Path;
@@ -14,14 +14,16 @@ fn main() {
     let (object, archive) = (format!("{out}/plain.o"), format!("{out}/libplain.a"));
     run("g++", &["-std=c++17", "-O3", "-Wall", "-Wextra", "-c", "plain.cpp", "-o", &object]);
     run("ar", &["rcs", &archive, &object]);
-    let verified = env::var("REPORT_LIB").unwrap_or_else(|_| "../target/staticlib".into());
-    let library = Path::new(&verified).join("libreport.a");
-    assert!(library.is_file(), "{} is missing; run bench/run, which makes it", library.display());
     println!("cargo::rustc-link-search=native={out}");
-    println!("cargo::rustc-link-search=native={verified}");
     println!("cargo::rustc-link-lib=static=plain");
-    println!("cargo::rustc-link-lib=static=report");
     println!("cargo::rerun-if-changed=plain.cpp");
-    println!("cargo::rerun-if-changed={}", library.display());
+    let verified = env::var("REPORT_LIB").unwrap_or_else(|_| "../target/staticlib".into());
+    println!("cargo::rustc-link-search=native={verified}");
+    for name in ["report", "bench_c"] {
+        let library = Path::new(&verified).join(format!("lib{name}.a"));
+        assert!(library.is_file(), "{} is missing; run bench/run, which makes it", library.display());
+        println!("cargo::rustc-link-lib=static={name}");
+        println!("cargo::rerun-if-changed={}", library.display());
+    }
     println!("cargo::rerun-if-env-changed=REPORT_LIB");
 }

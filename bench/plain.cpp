@@ -1,6 +1,6 @@
-// Reporting on two texts over GF(65537), as one would write it in plain C++ for a small device: fixed arrays, no heap.
-// It is here for its speed, as something to measure the verified library against; the bench checks that it gives the
-// same lines.
+// Reporting on two texts, and reading a text and writing it again, as one would write it in plain C++ for a small
+// device: fixed arrays, no heap. It is here for its speed, as something to measure the verified library against; the
+// bench checks that it gives the same bytes.
 
 #include <cstddef>
 #include <cstdint>
@@ -8,31 +8,68 @@
 
 namespace {
 
-constexpr uint32_t q = 65537;
 constexpr int most_states = 16;
 constexpr int most_letters = 6;
 constexpr int most_row = 2 * most_states;
 constexpr int number_width = 11;
 constexpr size_t longest_line = 387;
 
-uint32_t add(uint32_t a, uint32_t b) {
-    uint32_t sum = a + b;
-    return sum >= q ? sum - q : sum;
-}
+// GF(65537): residues.
+struct Fermat {
+    static constexpr uint32_t q = 65537;
 
-uint32_t subtract(uint32_t a, uint32_t b) { return a >= b ? a - b : a + q - b; }
-
-uint32_t multiply(uint32_t a, uint32_t b) { return static_cast<uint32_t>(static_cast<uint64_t>(a) * b % q); }
-
-// a to the power q - 2 = 65535.
-uint32_t inverse(uint32_t a) {
-    uint32_t result = a, square = a;
-    for (int i = 0; i < 15; ++i) {
-        square = multiply(square, square);
-        result = multiply(result, square);
+    static uint32_t add(uint32_t a, uint32_t b) {
+        uint32_t sum = a + b;
+        return sum >= q ? sum - q : sum;
     }
-    return result;
-}
+
+    static uint32_t subtract(uint32_t a, uint32_t b) { return a >= b ? a - b : a + q - b; }
+
+    static uint32_t multiply(uint32_t a, uint32_t b) { return static_cast<uint32_t>(static_cast<uint64_t>(a) * b % q); }
+
+    // a to the power q - 2 = 65535.
+    static uint32_t inverse(uint32_t a) {
+        uint32_t result = a, square = a;
+        for (int i = 0; i < 15; ++i) {
+            square = multiply(square, square);
+            result = multiply(result, square);
+        }
+        return result;
+    }
+};
+
+// The powers of t + 1 in GF(256), twice over, and the exponent of each byte.
+struct Logarithms {
+    uint8_t power[510], exponent[256];
+
+    constexpr Logarithms() : power(), exponent() {
+        unsigned value = 1;
+        for (unsigned i = 0; i < 255; ++i) {
+            power[i] = power[i + 255] = static_cast<uint8_t>(value);
+            exponent[value] = static_cast<uint8_t>(i);
+            value ^= value << 1;
+            if (value >= 256) value ^= 0x11b;
+        }
+    }
+};
+
+constexpr Logarithms logarithms;
+
+// GF(256): bytes.
+struct Bytes {
+    static constexpr uint32_t q = 256;
+
+    static uint32_t add(uint32_t a, uint32_t b) { return a ^ b; }
+
+    static uint32_t subtract(uint32_t a, uint32_t b) { return a ^ b; }
+
+    static uint32_t multiply(uint32_t a, uint32_t b) {
+        if (a == 0 || b == 0) return 0;
+        return logarithms.power[logarithms.exponent[a] + logarithms.exponent[b]];
+    }
+
+    static uint32_t inverse(uint32_t a) { return logarithms.power[255 - logarithms.exponent[a]]; }
+};
 
 struct Table {
     int states, letters;
@@ -45,14 +82,14 @@ struct Fault {
     int number, line, column;
 };
 
-class Reader {
+template <class Field> class Reader {
 public:
     Reader(const uint8_t *text, size_t length) : at_(text), last_(text + length) {}
 
     // Each function answers whether to go on; where it says no, fault() tells why.
     bool read(Table &table) {
         uint32_t n, k, order;
-        if (!kind('T') || !number(n, 0, most_states) || !number(k, 1, most_letters) || !number(order, q, q) || !newline())
+        if (!kind('T') || !number(n, 0, most_states) || !number(k, 1, most_letters) || !number(order, Field::q, Field::q) || !newline())
             return false;
         table.states = static_cast<int>(n);
         table.letters = static_cast<int>(k);
@@ -119,7 +156,7 @@ private:
 
     bool codes(uint32_t *into, int count) {
         for (int i = 0; i < count; ++i)
-            if (!number(into[i], 0, q - 1)) return false;
+            if (!number(into[i], 0, Field::q - 1)) return false;
         return true;
     }
 
@@ -155,19 +192,19 @@ private:
     size_t length_;
 };
 
-uint32_t dot(const uint32_t *a, const uint32_t *b, int n) {
+template <class Field> uint32_t dot(const uint32_t *a, const uint32_t *b, int n) {
     uint32_t sum = 0;
-    for (int i = 0; i < n; ++i) sum = add(sum, multiply(a[i], b[i]));
+    for (int i = 0; i < n; ++i) sum = Field::add(sum, Field::multiply(a[i], b[i]));
     return sum;
 }
 
-void row_times(const uint32_t *row, const uint32_t (*matrix)[most_states], int n, uint32_t *product) {
+template <class Field> void row_times(const uint32_t *row, const uint32_t (*matrix)[most_states], int n, uint32_t *product) {
     for (int j = 0; j < n; ++j) product[j] = 0;
     for (int i = 0; i < n; ++i)
-        for (int j = 0; j < n; ++j) product[j] = add(product[j], multiply(row[i], matrix[i][j]));
+        for (int j = 0; j < n; ++j) product[j] = Field::add(product[j], Field::multiply(row[i], matrix[i][j]));
 }
 
-class Comparison {
+template <class Field> class Comparison {
 public:
     Comparison(const Table &first, const Table &second)
         : first_(first), second_(second), width_(first.states + second.states) {}
@@ -180,8 +217,8 @@ public:
         keep(row, -1, 0);
         for (int parent = 0; parent < kept_; ++parent)
             for (int letter = 0; letter < first_.letters; ++letter) {
-                row_times(rows_[parent], first_.matrix[letter], first_.states, row);
-                row_times(rows_[parent] + first_.states, second_.matrix[letter], second_.states, row + first_.states);
+                row_times<Field>(rows_[parent], first_.matrix[letter], first_.states, row);
+                row_times<Field>(rows_[parent] + first_.states, second_.matrix[letter], second_.states, row + first_.states);
                 if (differs(row)) return report_difference(out, parent, letter + 1, row);
                 keep(row, parent, letter + 1);
             }
@@ -191,7 +228,7 @@ public:
 private:
     bool differs(const uint32_t *row) {
         ++tried_;
-        return dot(row, first_.end, first_.states) != dot(row + first_.states, second_.end, second_.states);
+        return dot<Field>(row, first_.end, first_.states) != dot<Field>(row + first_.states, second_.end, second_.states);
     }
 
     // Keeps a row unless it is a combination of those kept.
@@ -201,13 +238,13 @@ private:
         for (int i = 0; i < kept_; ++i) {
             const uint32_t factor = rest[pivot_[i]];
             if (factor == 0) continue;
-            for (int j = pivot_[i]; j < width_; ++j) rest[j] = subtract(rest[j], multiply(factor, echelon_[i][j]));
+            for (int j = pivot_[i]; j < width_; ++j) rest[j] = Field::subtract(rest[j], Field::multiply(factor, echelon_[i][j]));
         }
         int pivot = 0;
         while (pivot < width_ && rest[pivot] == 0) ++pivot;
         if (pivot == width_) return;
-        const uint32_t scale = inverse(rest[pivot]);
-        for (int j = 0; j < width_; ++j) echelon_[kept_][j] = multiply(rest[j], scale);
+        const uint32_t scale = Field::inverse(rest[pivot]);
+        for (int j = 0; j < width_; ++j) echelon_[kept_][j] = Field::multiply(rest[j], scale);
         std::memcpy(rows_[kept_], row, sizeof(uint32_t) * static_cast<size_t>(width_));
         pivot_[kept_] = pivot;
         parent_[kept_] = parent;
@@ -222,8 +259,8 @@ private:
         for (int at = parent; at > 0; at = parent_[at]) word[length++] = static_cast<uint32_t>(letter_[at]);
         Line line(out, 'D');
         line.number(tried_).number(static_cast<uint32_t>(length));
-        line.number(dot(row, first_.end, first_.states));
-        line.number(dot(row + first_.states, second_.end, second_.states));
+        line.number(dot<Field>(row, first_.end, first_.states));
+        line.number(dot<Field>(row + first_.states, second_.end, second_.states));
         while (length > 0) line.number(word[--length]);
         return line.finish();
     }
@@ -245,22 +282,60 @@ size_t refusal(uint8_t *out, uint32_t text, const Fault &fault) {
         .finish();
 }
 
+size_t put_line(uint8_t *out, char kind, uint32_t head, uint32_t row, const uint32_t *codes, int count) {
+    Line line(out, kind);
+    if (head != 0) line.number(head).number(row);
+    for (int i = 0; i < count; ++i) line.number(codes[i]);
+    return line.finish();
+}
+
+template <class Field> size_t write(const Table &table, uint8_t *out) {
+    const int n = table.states;
+    uint8_t *at = out;
+    at += Line(at, 'T')
+              .number(static_cast<uint32_t>(n))
+              .number(static_cast<uint32_t>(table.letters))
+              .number(Field::q)
+              .finish();
+    at += put_line(at, 'S', 0, 0, table.start, n);
+    for (int letter = 0; letter < table.letters; ++letter)
+        for (int row = 0; row < n; ++row)
+            at += put_line(at, 'M', static_cast<uint32_t>(letter + 1), static_cast<uint32_t>(row + 1),
+                           table.matrix[letter][row], n);
+    at += put_line(at, 'E', 0, 0, table.end, n);
+    at += put_line(at, 'Z', 0, 0, nullptr, 0);
+    return static_cast<size_t>(at - out);
+}
+
+template <class Field>
+size_t report_over(const uint8_t *first, size_t first_length, const uint8_t *second, size_t second_length, uint8_t *out,
+                   size_t out_length) {
+    if (out_length < longest_line) return 0;
+    Table tables[2];
+    Reader<Field> readers[2] = {Reader<Field>(first, first_length), Reader<Field>(second, second_length)};
+    for (uint32_t i = 0; i < 2; ++i)
+        if (!readers[i].read(tables[i])) return refusal(out, i + 1, readers[i].fault());
+    if (tables[0].letters != tables[1].letters) return refusal(out, 0, Fault{5, 0, 0});
+    return Comparison<Field>(tables[0], tables[1]).run(out);
+}
+
 }  // namespace
 
 extern "C" size_t plain_report(const uint8_t *first, size_t first_length, const uint8_t *second, size_t second_length,
                                uint8_t *out, size_t out_length) {
-    if (out_length < longest_line) return 0;
-    Table tables[2];
-    Reader readers[2] = {Reader(first, first_length), Reader(second, second_length)};
-    for (uint32_t i = 0; i < 2; ++i)
-        if (!readers[i].read(tables[i])) return refusal(out, i + 1, readers[i].fault());
-    if (tables[0].letters != tables[1].letters) return refusal(out, 0, Fault{5, 0, 0});
-    return Comparison(tables[0], tables[1]).run(out);
+    return report_over<Fermat>(first, first_length, second, second_length, out, out_length);
 }
 
-// Reads a text and answers the refusal's number, or 0.
-extern "C" int plain_read(const uint8_t *text, size_t length) {
+extern "C" size_t plain_report_bytes(const uint8_t *first, size_t first_length, const uint8_t *second,
+                                     size_t second_length, uint8_t *out, size_t out_length) {
+    return report_over<Bytes>(first, first_length, second, second_length, out, out_length);
+}
+
+// Reads a text over GF(65537) and writes it again: how many bytes it has, 0 where it is refused or has too many. A text
+// that is read has as many bytes as the one that is written.
+extern "C" size_t plain_rewrite(const uint8_t *text, size_t length, uint8_t *out, size_t out_length) {
     Table table;
-    Reader reader(text, length);
-    return reader.read(table) ? 0 : reader.fault().number;
+    Reader<Fermat> reader(text, length);
+    if (!reader.read(table) || out_length < length) return 0;
+    return write<Fermat>(table, out);
 }

@@ -1,161 +1,169 @@
-//! Times `report` of the verified library beside a plain C++ program and the independent Rust program, on the same
-//! inputs in one run, and prints the times and their ratios.
+//! Times the verified library beside plain C++ and the independent Rust program, on the same inputs in one run, and
+//! prints the times, their ratios, whether the aims are met and how the times grow.
 
-use std::time::{Duration, Instant};
+mod cases;
+mod programs;
+mod timing;
 
-use independent::field::Fermat;
-use independent::making::{any_factor, in_another_basis, random_table, with_unobservable};
+use cases::{Kind, long_walk, only_read, reading, sizes, text, two_forms};
+use independent::field::{Bytes, Fermat};
 use independent::prng::Random;
-use independent::report::{LONGEST_LINE, report as rust_report};
-use independent::table::Table;
-use independent::text::write;
 use independent::vectors;
+use programs::{Reported, agree_on_rewriting, agreed_line};
+use timing::{Times, report_times, rewrite_times, without};
 
-type Report = unsafe extern "C" fn(*const u8, usize, *const u8, usize, *mut u8, usize) -> usize;
-
-unsafe extern "C" {
-    fn report(
-        first: *const u8,
-        first_len: usize,
-        second: *const u8,
-        second_len: usize,
-        out: *mut u8,
-        len: usize,
-    ) -> usize;
-    fn plain_report(
-        first: *const u8,
-        first_len: usize,
-        second: *const u8,
-        second_len: usize,
-        out: *mut u8,
-        len: usize,
-    ) -> usize;
+/// A row of a table.
+struct Row {
+    name: &'static str,
+    states: usize,
+    letters: usize,
+    note: String,
+    times: Times,
 }
 
-/// One of the programs that are timed.
-#[derive(Clone, Copy)]
-enum Program {
-    Verified,
-    Cpp,
-    Rust,
-}
-
-const PROGRAMS: [Program; 3] = [Program::Verified, Program::Cpp, Program::Rust];
-
-fn foreign(function: Report, first: &[u8], second: &[u8], out: &mut [u8]) -> usize {
-    // SAFETY: each pointer comes from a slice and goes with its length, and the output is borrowed for writing.
-    unsafe { function(first.as_ptr(), first.len(), second.as_ptr(), second.len(), out.as_mut_ptr(), out.len()) }
-}
-
-impl Program {
-    fn report(self, first: &[u8], second: &[u8], out: &mut [u8]) -> usize {
-        match self {
-            Program::Verified => foreign(report, first, second, out),
-            Program::Cpp => foreign(plain_report, first, second, out),
-            Program::Rust => rust_report(first, second, out),
-        }
+impl Row {
+    /// The verified library's time as a multiple of plain Rust's.
+    fn beside_rust(&self) -> f64 {
+        self.times[0] / self.times[2]
     }
 
-    fn line(self, first: &[u8], second: &[u8]) -> Vec<u8> {
-        let mut out = [0; LONGEST_LINE];
-        let length = self.report(first, second, &mut out);
-        out[..length].to_vec()
+    fn print(&self) {
+        let [verified, cpp, rust] = self.times;
+        println!(
+            "| {} | {} | {} | {} | {verified:.1} | {cpp:.1} | {rust:.1} | {:.2} | {:.2} |",
+            self.name,
+            self.states,
+            self.letters,
+            self.note,
+            verified / cpp,
+            self.beside_rust()
+        );
     }
 }
 
-/// Two texts to report on.
-struct Case {
-    first: Vec<u8>,
-    second: Vec<u8>,
+fn head(title: &str, note: &str) {
+    println!("\n### {title}\n");
+    println!(
+        "| case | states | letters | {note} | verified, µs | C++, µs | Rust, µs | verified / C++ | verified / Rust |"
+    );
+    println!("|---|---:|---:|---|---:|---:|---:|---:|---:|");
 }
 
-/// A kind of case, which can be made in every size.
-type Kind = fn(&mut Random, usize, usize) -> Case;
-
-const KINDS: [(&str, Kind); 3] = [("reading", reading), ("two forms", two_forms), ("long walk", long_walk)];
-
-/// Seen in bases so unlike the first that hardly a number is zero.
-fn mixed(random: &mut Random, table: &Table<Fermat>) -> Table<Fermat> {
-    (0..4).fold(table.clone(), |table, _| in_another_basis(random, &table))
+/// Reports of a kind, in all sizes; with them, for two tables, what comparing alone takes.
+fn reports<F: Reported>(random: &mut Random, name: &'static str, kind: Kind) -> Vec<(Row, Row)> {
+    let one = |(states, letters): (usize, usize)| {
+        let case = kind(random, states, letters);
+        let line = agreed_line::<F>(&case.first, &case.second);
+        let note = line.split_whitespace().collect::<Vec<_>>().join(" ");
+        let read = only_read(&case);
+        agreed_line::<F>(&read.first, &read.second);
+        let times = report_times::<F>(&case);
+        let alone = without(times, report_times::<F>(&read));
+        let row = |times, note| Row { name, states, letters, note, times };
+        (row(times, note.clone()), row(alone, note))
+    };
+    sizes().map(one).collect()
 }
 
-/// A table of n states in two forms: n words are kept.
-fn two_forms(random: &mut Random, n: usize, k: usize) -> Case {
-    let table = random_table(random, n, k);
-    let texts = [0; 2].map(|_| write(&mixed(random, &table)));
-    let [first, second] = texts;
-    Case { first, second }
+/// Prints reports, and comparing alone; answers the rows of the reports.
+fn comparisons<F: Reported>(random: &mut Random, order: &str) -> Vec<Row> {
+    let kinds: [(_, Kind); 2] = [("two forms", two_forms::<F>), ("long walk", long_walk::<F>)];
+    let rows = kinds.into_iter().flat_map(|(name, kind)| reports::<F>(random, name, kind));
+    let (whole, alone): (Vec<Row>, Vec<Row>) = rows.unzip();
+    head(&format!("report on two tables over {order}"), "line");
+    whole.iter().for_each(Row::print);
+    head(&format!("comparing alone over {order}: report, less the same without comparing"), "line");
+    alone.iter().for_each(Row::print);
+    grow(&alone[sizes().count()..]);
+    whole
 }
 
-/// One state that shows, the same in both tables, and n - 1 that do not, different in each: 2n - 1 words are kept, so
-/// the walk is the longest that two tables which weigh alike can ask for, but for one word.
-fn long_walk(random: &mut Random, n: usize, k: usize) -> Case {
-    let mut shown = random_table(random, 1, k);
-    (shown.start[0], shown.end[0]) = (any_factor(random), any_factor(random));
-    let texts = [0; 2].map(|_| {
-        let mut hidden = with_unobservable(random, &shown, n - 1);
-        hidden.start.iter_mut().skip(1).for_each(|e| *e = any_factor(random));
-        write(&mixed(random, &hidden))
-    });
-    let [first, second] = texts;
-    Case { first, second }
+/// Reports on one text, the second being empty, and on none.
+fn one_text(random: &mut Random) -> Vec<Row> {
+    head("report on one text over GF(65537)", "line");
+    let row = |name, states, letters, first: &[u8], second: &[u8]| {
+        let note = agreed_line::<Fermat>(first, second).split_whitespace().collect::<Vec<_>>().join(" ");
+        let case = cases::Case { first: first.to_vec(), second: second.to_vec() };
+        Row { name, states, letters, note, times: report_times::<Fermat>(&case) }
+    };
+    row("nothing read", 0, 0, b"", b"").print();
+    let one = |(n, k)| {
+        let case = reading::<Fermat>(random, n, k);
+        row("reading", n, k, &case.first, &case.second)
+    };
+    let rows: Vec<Row> = sizes().map(one).collect();
+    rows.iter().for_each(Row::print);
+    grow(&rows);
+    rows
 }
 
-/// The first text alone is read, since the second is empty.
-fn reading(random: &mut Random, n: usize, k: usize) -> Case {
-    let table = random_table(random, n, k);
-    Case { first: write(&mixed(random, &table)), second: Vec::new() }
+/// Reading and writing a text, and the same less what the verified library takes to clear the memory that it brings.
+fn rewriting(random: &mut Random) -> [Vec<Row>; 2] {
+    let name = "reading and writing";
+    let row = |states, letters, bytes: usize, times| Row { name, states, letters, note: bytes.to_string(), times };
+    let texts: Vec<(usize, usize, Vec<u8>)> = sizes().map(|(n, k)| (n, k, text::<Fermat>(random, n, k))).collect();
+    texts.iter().for_each(|(_, _, text)| agree_on_rewriting(text));
+    let rows: Vec<Row> = texts.iter().map(|(n, k, text)| row(*n, *k, text.len(), rewrite_times(text))).collect();
+    let cleared = rewrite_times(b"")[0];
+    let less = |row_: &Row| {
+        let [verified, cpp, rust] = row_.times;
+        row(row_.states, row_.letters, row_.note.parse().unwrap_or(0), [verified - cleared, cpp, rust])
+    };
+    let less: Vec<Row> = rows.iter().map(less).collect();
+    head("reading and writing a text over GF(65537)", "bytes");
+    rows.iter().for_each(Row::print);
+    head(&format!("the same, less the {cleared:.1} µs that an empty text takes the verified library"), "bytes");
+    less.iter().for_each(Row::print);
+    grow(&less);
+    [rows, less]
 }
 
-/// All programs must give the same lines, or their times mean nothing.
-fn agree(first: &[u8], second: &[u8]) {
-    let lines = PROGRAMS.map(|program| program.line(first, second));
-    for line in &lines {
-        assert_eq!(String::from_utf8_lossy(line), String::from_utf8_lossy(&lines[2]));
-    }
+/// Prints how times grow from size to size, of rows in all sizes.
+fn grow(rows: &[Row]) {
+    let at = |n: usize, k: usize| rows.iter().find(|row| (row.states, row.letters) == (n, k)).expect("a size").times[0];
+    let by = |to: f64, from: f64| format!("{:.1}", to / from);
+    let states = [1, 3, 6].map(|k| format!("{} and {}", by(at(8, k), at(4, k)), by(at(16, k), at(8, k))));
+    let letters = [4, 8, 16].map(|n| format!("{} and {}", by(at(n, 3), at(n, 1)), by(at(n, 6), at(n, 3))));
+    println!(
+        "\nThe verified library's time grows, from 4 to 8 and from 8 to 16 states, by {} with",
+        states.join("; by ")
+    );
+    println!(
+        "1, 3 and 6 letters; from 1 to 3 and from 3 to 6 letters, by {} with 4, 8 and 16 states.",
+        letters.join("; by ")
+    );
 }
 
-/// The time of one report: the least of several rounds, in which the programs take turns.
-fn times(case: &Case) -> [Duration; 3] {
-    let mut best = [Duration::MAX; 3];
-    let mut out = [0; LONGEST_LINE];
-    for _ in 0..60 {
-        for (program, best) in PROGRAMS.into_iter().zip(&mut best) {
-            let begun = Instant::now();
-            let mut made = 0;
-            while made < 3 || begun.elapsed() < Duration::from_millis(1) {
-                std::hint::black_box(program.report(&case.first, &case.second, &mut out));
-                made += 1;
-            }
-            *best = (*best).min(begun.elapsed() / made);
-        }
-    }
-    best
-}
-
-/// A row of the printed table.
-fn row(name: &str, n: usize, k: usize, case: &Case) -> String {
-    agree(&case.first, &case.second);
-    let line = String::from_utf8_lossy(&Program::Rust.line(&case.first, &case.second)).into_owned();
-    let words: Vec<&str> = line.split_whitespace().collect();
-    let [verified, cpp, rust] = times(case).map(|time| time.as_secs_f64() * 1e6);
-    let ratios = format!("{:.2} | {:.2}", verified / cpp, verified / rust);
-    format!("| {name} | {n} | {k} | {} | {verified:.1} | {cpp:.1} | {rust:.1} | {ratios} |", words.join(" "))
+/// Prints whether the verified library takes at most so many times what plain Rust takes.
+fn aim(what: &str, most: f64, rows: &[Row]) {
+    let met = rows.iter().filter(|row| row.beside_rust() <= most).count();
+    let worst = rows.iter().max_by(|a, b| a.beside_rust().total_cmp(&b.beside_rust())).expect("some row");
+    println!(
+        "- {what}, at most {most:.1} times plain Rust: in {met} of {} rows; {:.2} at the most, {} at {} states and {} letters",
+        rows.len(),
+        worst.beside_rust(),
+        worst.name,
+        worst.states,
+        worst.letters
+    );
 }
 
 fn main() {
     let pairs = vectors::pairs::<Fermat>(7, 400);
-    pairs.iter().for_each(|(first, second)| agree(first, second));
-    println!("{} pairs of texts: all three give the same lines", pairs.len());
-    println!();
-    println!(
-        "| case | states | letters | line | verified, µs | C++, µs | Rust, µs | verified / C++ | verified / Rust |"
-    );
-    println!("|---|---:|---:|---|---:|---:|---:|---:|---:|");
+    pairs.iter().for_each(|(first, second)| drop(agreed_line::<Fermat>(first, second)));
+    pairs.iter().for_each(|(first, _)| agree_on_rewriting(first));
+    let bytes = vectors::pairs::<Bytes>(7, 400);
+    bytes.iter().for_each(|(first, second)| drop(agreed_line::<Bytes>(first, second)));
+    println!("2 times 400 pairs of texts: all three give the same lines, and write 400 texts alike");
     let random = &mut Random::new(1);
-    for (name, kind) in KINDS {
-        for (n, k) in [4, 8, 16].into_iter().flat_map(|n| [1, 3, 6].map(|k| (n, k))) {
-            println!("{}", row(name, n, k, &kind(random, n, k)));
-        }
-    }
+    let one = one_text(random);
+    let two = comparisons::<Fermat>(random, "GF(65537)");
+    let [rewritten, less] = rewriting(random);
+    let over_bytes = comparisons::<Bytes>(random, "GF(256)");
+    println!("\n### Aims\n");
+    aim("report on one text over GF(65537)", 1.0, &one);
+    aim("report on two tables over GF(65537)", 1.0, &two);
+    aim("report on two tables over GF(256)", 1.0, &over_bytes);
+    aim("reading and writing, with memory of its own", 1.2, &rewritten);
+    aim("reading and writing, less clearing that memory", 1.2, &less);
 }

@@ -164,6 +164,33 @@ pub fn parted_sequences<F: Field>(random: &mut Random, n1: usize, n2: usize, let
     }
 }
 
+/// Two tables of n states that weigh all words before `word` in order alike, and `word`, of 2 n - 1 letters, differently.
+///
+/// Both go along a line of states and back, each step by the next letter of the word; only in the second the middle
+/// letter leads from the last state to itself, so that the way back begins where the way there ended. A letter may also
+/// stay in any state, alike in both.
+pub fn there_and_back<F: Field>(random: &mut Random, word: &[u8], letters: usize) -> (Table<F>, Table<F>) {
+    let n = word.len().div_ceil(2);
+    let mut first = Table { start: unit(n, 0), matrices: Vec::new(), end: zeros(n) };
+    first.end[0] = any_factor(random);
+    for letter in 1..=letters as u8 {
+        let mut by = |step: usize| if word[step] == letter { any_factor(random) } else { Element::ZERO };
+        let mut matrix = Matrix::new(n, |i, j| match (j == i + 1, i == j + 1) {
+            (true, _) => by(i),
+            (_, true) => by(2 * n - 1 - i),
+            _ => Element::ZERO,
+        });
+        for state in 0..n {
+            *matrix.at_mut(state, state) = any_element(random);
+        }
+        first.matrices.push(matrix);
+    }
+    let mut second = first.clone();
+    let middle = &mut second.matrices[usize::from(word[n - 1]) - 1];
+    *middle.at_mut(n - 1, n - 1) += any_factor(random);
+    (first, second)
+}
+
 /// The table of two states that weighs words of letters `a` and `b` in turn (first `a`) one, and all others zero.
 pub fn alternating<F: Field>(letters: usize, a: u8, b: u8) -> Table<F> {
     let step = |letter: usize| {
@@ -187,6 +214,15 @@ mod tests {
         assert_eq!(first.len(), n1 + n2 - 1);
     }
 
+    fn parts_at_a_word<F: Field>(random: &mut Random) {
+        let (n, letters) = (random.between(1, 3), random.between(1, 3));
+        let word: Vec<u8> = (1..2 * n).map(|_| random.between(1, letters) as u8).collect();
+        let (f, g) = there_and_back::<F>(random, &word, letters);
+        let (f, g) = (in_another_basis(random, &f), in_another_basis(random, &g));
+        let all = words(letters as u8, word.len());
+        assert_eq!(all.iter().find(|word| f.weight(word) != g.weight(word)), Some(&word));
+    }
+
     fn weighs_alike<F: Field>(random: &mut Random) {
         let (states, letters) = (random.between(0, 4), random.between(1, 3));
         let table = random_table::<F>(random, states, letters);
@@ -201,6 +237,9 @@ mod tests {
             parts_late::<Bits>(&mut random);
             parts_late::<Bytes>(&mut random);
             parts_late::<Fermat>(&mut random);
+            parts_at_a_word::<Bits>(&mut random);
+            parts_at_a_word::<Bytes>(&mut random);
+            parts_at_a_word::<Fermat>(&mut random);
             weighs_alike::<Bits>(&mut random);
             weighs_alike::<Bytes>(&mut random);
             weighs_alike::<Fermat>(&mut random);

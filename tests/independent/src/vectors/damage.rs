@@ -3,10 +3,10 @@
 use crate::prng::Random;
 
 /// Bytes that are likely to matter: what may stand somewhere in a text, and the neighbours of such bytes.
-const TELLING: [u8; 24] = *b" 0123456789TSMEZz\n\r\t/:\x00\xff";
+pub const TELLING: [u8; 24] = *b" 0123456789TSMEZz\n\r\t/:\x00\xff";
 
 /// Numbers that are likely to matter.
-const NUMBERS: [u64; 14] = [0, 1, 2, 3, 6, 7, 16, 17, 255, 256, 65536, 65537, 999_999_999, 9_999_999_999];
+pub const NUMBERS: [u64; 14] = [0, 1, 2, 3, 6, 7, 16, 17, 255, 256, 65536, 65537, 999_999_999, 9_999_999_999];
 
 /// A byte other than the one given.
 pub fn another_byte(random: &mut Random, byte: u8) -> u8 {

@@ -2,7 +2,9 @@
 
 use super::damage::{changed_at, damaged};
 use crate::field::{Bits, Bytes, Field};
-use crate::making::{alternating, any_factor, chain, dressed, parted_sequences, random_table};
+use crate::making::{
+    alternating, any_factor, chain, dressed, in_another_basis, parted_sequences, random_table, there_and_back,
+};
 use crate::prng::Random;
 use crate::table::{Table, Word};
 use crate::text::write;
@@ -27,6 +29,20 @@ pub fn pairs<F: Field>(seed: u64, count: usize) -> Vec<Pair> {
     }
     made.truncate(count);
     made
+}
+
+/// Pairs of texts of 16 states that differ first at a word of 31 letters, any word over 2 to 6 letters, so many of them.
+pub fn parted<F: Field>(seed: u64, count: usize) -> Vec<Pair> {
+    let mut random = Random::new(seed);
+    (0..count).map(|_| texts(longest::<F>(&mut random))).collect()
+}
+
+/// Two tables of 16 states, over 2 to 6 letters, that differ first at some word of 31 letters.
+pub fn longest<F: Field>(random: &mut Random) -> (Table<F>, Table<F>) {
+    let k = random.between(2, 6);
+    let word: Word = (0..31).map(|_| random.between(1, k) as u8).collect();
+    let (first, second) = there_and_back(random, &word, k);
+    (in_another_basis(random, &first), in_another_basis(random, &second))
 }
 
 fn texts<F: Field>((first, second): (Table<F>, Table<F>)) -> Pair {
@@ -183,6 +199,25 @@ mod tests {
         assert_eq!(unframed(&framed(&made)), Some(made));
         assert_eq!(unframed(b"1\nx"), None);
         assert_eq!(unframed(b"1\nx\n"), None);
+    }
+
+    /// The letters of the word in a line that has 31 of them.
+    fn letters(line: &str) -> HashSet<String> {
+        assert_eq!(line.len(), 387, "{line}");
+        line.split_ascii_whitespace().skip(5).map(String::from).collect()
+    }
+
+    #[test]
+    fn words_of_31_letters() {
+        let mut most = 0;
+        for (first, second) in parted::<Fermat>(1, 20) {
+            let found = letters(&report_line::<Fermat>(&first, &second));
+            assert!(found.len() > 1);
+            most = most.max(found.len());
+        }
+        assert_eq!(most, 6);
+        parted::<Bits>(1, 3).iter().for_each(|(first, second)| drop(letters(&report_line::<Bits>(first, second))));
+        parted::<Bytes>(1, 3).iter().for_each(|(first, second)| drop(letters(&report_line::<Bytes>(first, second))));
     }
 
     #[test]

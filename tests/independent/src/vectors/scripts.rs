@@ -1,6 +1,7 @@
 //! Scripts of calls on a shelf, over all fields, with every refusal.
 
 use super::damage::{changed_at, damaged};
+use super::pairs::longest;
 use crate::compare::Verdict;
 use crate::field::{Bits, Bytes, Fermat, Field};
 use crate::making::{alternating, any_element, any_factor, chain, dressed, parted_sequences, random_table};
@@ -25,6 +26,20 @@ pub fn script(seed: u64, calls: usize) -> Vec<u8> {
             0 => Session::<Bits>::run(&mut made, &mut random, turn),
             1 => Session::<Bytes>::run(&mut made, &mut random, turn),
             _ => Session::<Fermat>::run(&mut made, &mut random, turn),
+        }
+    }
+    made.bytes
+}
+
+/// A script of calls on so many pairs of tables that differ first at a word of 31 letters, over each field in turn.
+pub fn parts(seed: u64, count: usize) -> Vec<u8> {
+    let mut made = Writing { bytes: Vec::new(), texts: 0, left: usize::MAX };
+    let mut random = Random::new(seed);
+    for turn in 0..count {
+        match turn % 3 {
+            0 => Session::<Bits>::part_longest(&mut made, &mut random),
+            1 => Session::<Bytes>::part_longest(&mut made, &mut random),
+            _ => Session::<Fermat>::part_longest(&mut made, &mut random),
         }
     }
     made.bytes
@@ -66,12 +81,24 @@ struct Session<'s, F: Field> {
 }
 
 impl<'s, F: Field> Session<'s, F> {
+    /// A new shelf.
+    fn begin(written: &'s mut Writing, random: &'s mut Random, letters: usize) -> Self {
+        written.line(&format!("field {}", F::ORDER));
+        Self { written, random, shelf: Shelf::open(SHELF_SIZE), lent: Lent::ALL, letters }
+    }
+
+    /// The calls on two tables of 16 states that differ first at a word of 31 letters.
+    fn part_longest(written: &'s mut Writing, random: &'s mut Random) {
+        let (first, second) = longest(random);
+        let letters = first.letters();
+        Self::begin(written, random, letters).part(first, second);
+    }
+
     /// Some 120 calls. What takes many bytes comes in some turns only.
     fn run(written: &'s mut Writing, random: &'s mut Random, turn: usize) {
         let letters = random.pick(&[1, 1, 1, 2, 2, 2, 3, 3, 4, 5, 6]);
-        let (until, lent) = (written.left.saturating_sub(120), Lent::ALL);
-        let mut session = Self { written, random, shelf: Shelf::open(SHELF_SIZE), lent, letters };
-        session.written.line(&format!("field {}", F::ORDER));
+        let until = written.left.saturating_sub(120);
+        let mut session = Self::begin(written, random, letters);
         match turn % 10 {
             3 => session.longest_word(),
             7 => session.largest(),
@@ -580,6 +607,14 @@ mod tests {
         }
         assert_eq!(script(7, 200), script(7, 200));
         assert_ne!(script(7, 200), script(8, 200));
+    }
+
+    #[test]
+    fn words_of_31_letters_are_told_and_weighed() {
+        let lines = told(&parts(1, 6));
+        let compared = lines.iter().filter(|line| line.contains("compare: differs at"));
+        let lengths: Vec<usize> = compared.map(|line| line.split_once(',').unwrap().0.split(' ').count() - 4).collect();
+        assert_eq!(lengths.iter().filter(|&&length| length == 31).count(), 12);
     }
 
     #[test]
