@@ -18,7 +18,7 @@ pub struct Byte {
     ghost below: { n < 256 },
 }
 
-// The product of two bytes: its logarithm is the sum of theirs.
+// The product of two bytes: its logarithm is the sum of theirs. A loop over the bits takes longer, but in rows of 16 or 32.
 fn product(a: u8, b: u8) -> u8
     ensures is_product { result ≡ bytewise a b }
 {

@@ -67,7 +67,8 @@ mod tests {
         check_codes::<Byte>(&rt, 256, &[0, 1, 2, 0x53, 0x80, 254, 255])
     }
 
-    // The product of two polynomials over GF(2), below the power 8: a sum of shifts of the first.
+    // The product of two polynomials over GF(2), below the power 8: a sum of shifts of the first. The loop is over places
+    // of bits, which lie in no collection.
     fn shifts_summed(a: u64, b: u64) -> u64 {
         let mut sum = 0;
         for i in 0..8u8 {
@@ -78,7 +79,7 @@ mod tests {
         sum
     }
 
-    // What is left of a polynomial by t^8 + t^4 + t^3 + t + 1, from its power 14 down.
+    // What t^8 + t^4 + t^3 + t + 1 leaves of a polynomial, from its power 14 down. This loop too is over places of bits.
     fn divided(whole: u64) -> u64 {
         let mut left = whole;
         for i in 0..7u8 {
@@ -89,7 +90,7 @@ mod tests {
         left
     }
 
-    // Checks the product of a byte with each byte, and its inverse.
+    // Checks the product of a byte with each byte, and its inverse. The loop is over values, not over places in a list.
     fn check_products(rt: &impl Abort, a: u8) {
         let x = Byte::from(a);
         for b in 0..=255u8 {
@@ -102,6 +103,7 @@ mod tests {
         }
     }
 
+    // Here too the loop is over values.
     #[test]
     fn all_products_of_bytes(rt: HostRuntime) -> Result<(), Fail> {
         for a in 0..=255u8 {
