@@ -81,52 +81,39 @@ mod tests {
         Ok(())
     }
 
+    // The same over GF(65537), in memory of its own.
+    fn check_fermat(
+        rt: &impl Abort,
+        shape: Shape,
+        table: &[u64],
+        reduced: usize,
+        codes: &[u64],
+    ) -> Result<(), Fail> {
+        let mut work = [Fermat::zero(); 8192];
+        let mut shelf = [Fermat::zero(); 1568];
+        check_reduced(rt, &mut work, &mut shelf, shape, table, reduced, codes)
+    }
+
     #[test]
     fn fibonacci_is_reduced_already(rt: HostRuntime) -> Result<(), Fail> {
         let table = [1, 0, 0, 1, 1, 1, 0, 1];
-        check_reduced(
-            &rt,
-            &mut [Fermat::zero(); 8192],
-            &mut [Fermat::zero(); 1568],
-            Shape::new(2, 1),
-            &table,
-            2,
-            &table,
-        )
+        check_fermat(&rt, Shape::new(2, 1), &table, 2, &table)
     }
 
     #[test]
     fn zero_end_column_leaves_no_states(rt: HostRuntime) -> Result<(), Fail> {
-        check_reduced(
-            &rt,
-            &mut [Fermat::zero(); 8192],
-            &mut [Fermat::zero(); 1568],
-            Shape::new(2, 1),
-            &[1, 0, 0, 1, 1, 1, 0, 0],
-            0,
-            &[],
-        )
+        check_fermat(&rt, Shape::new(2, 1), &[1, 0, 0, 1, 1, 1, 0, 0], 0, &[])
     }
 
     #[test]
     fn no_states_stay_none(rt: HostRuntime) -> Result<(), Fail> {
-        check_reduced(
-            &rt,
-            &mut [Fermat::zero(); 8192],
-            &mut [Fermat::zero(); 1568],
-            Shape::new(0, 6),
-            &[],
-            0,
-            &[],
-        )
+        check_fermat(&rt, Shape::new(0, 6), &[], 0, &[])
     }
 
     #[test]
     fn squares_of_fibonacci(rt: HostRuntime) -> Result<(), Fail> {
-        check_reduced(
+        check_fermat(
             &rt,
-            &mut [Fermat::zero(); 8192],
-            &mut [Fermat::zero(); 1568],
             Shape::new(4, 1),
             &[
                 1, 0, 0, 0, 0, 0, 0, 1, 0, 0, 1, 1, 0, 1, 0, 1, 1, 1, 1, 1, 0, 0, 0, 1,

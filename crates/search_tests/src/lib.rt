@@ -43,8 +43,7 @@ mod tests {
         requires table_within { base + table_size states letters ≤ length shelf.now }
         ensures of_letters { result.shape.letters ≡ letters }
     {
-        let shape = Shape::new(states, letters);
-        TableRef::new(&shelf[base..base + shape.size()], shape)
+        TableRef::at(shelf, base, Shape::new(states, letters))
     }
 
     // How many words are tried and kept, if all weigh alike.
@@ -88,6 +87,7 @@ mod tests {
             } => {
                 let front = digits(&word.letters[..16]);
                 let back = digits(&word.letters[16..]);
+                // casts, since std has no `From<usize>` of u64
                 assert_eq!(rt;
                     [word.length as u64, tried as u64, front, back, left, right],
                     expected
