@@ -8,7 +8,7 @@ use Rattle.field.specs.FiniteField.{FiniteField}
 use Rattle.book.specs.Shelves.{Shelf, Lent, State}
 use Rattle.book.specs.Calls.{Call}
 use Rattle.book.specs.Doing.{Does}
-use Rattle.book.specs.Using.{lending, Use, none, next, Leads, Course}
+use Rattle.book.specs.Using.{lending, Use, none, next, CallAt, Leads, Course}
 use Rattle.book.specs.Law.{Changes, Untouched, still, later}
 use Rattle.book.specs.Outcomes.{Outcome}
 use Rattle.book.proofs.Uses.{use_length}
@@ -31,7 +31,7 @@ module _ {V : Type 0} (K : FiniteField V) {F : Type 0} (value : F → V) where
   after_early : {first s : Shelf F} {cs : List Call} {os : List Outcome} (u : Use K value first cs os s) (l : Lent) (c : Call) (o : Outcome) (t : State F) (d : Does K value (lending s l) c o t) (i : ℕ) → i ≤ length cs → after (next u l c o t d) i ≡ after u i
   after_early {first} u l c o t d i h = get_or_append_left (shelves u) (t.shelf ∷ []) first i (omega (arith, shelves_length u))
 
-  pub after_all : {first s : Shelf F} {cs : List Call} {os : List Outcome} (u : Use K value first cs os s) → after u (length cs) ≡ s
+  after_all : {first s : Shelf F} {cs : List Call} {os : List Outcome} (u : Use K value first cs os s) → after u (length cs) ≡ s
   after_all none = refl
   after_all {first} (next {cs = cs} u l c o t d) = get_or_at (shelves u) t.shelf [] first (length (cs ++ c ∷ [])) (shelves_length u ∙ sym (length-append cs (c ∷ [])))
 
@@ -84,7 +84,20 @@ module _ {V : Type 0} (K : FiniteField V) {F : Type 0} (value : F → V) where
           subst (Use K value first (take i (cs ++ d ∷ [])) (take i (os ++ x ∷ []))) (sym (after_last u lent d x t h i e))
           (subst₂ (λ a b. Use K value first a b t.shelf) (sym (take_all i (cs ++ d ∷ []) (omega (arith, e, length-append cs (d ∷ []))))) (sym (take_all i (os ++ x ∷ []) (omega (arith, e, same, length-append os (x ∷ []))))) (next u lent d x t h))
 
-  -- and so are the others
+  -- each call of a use
+  pub use_each : {first s : Shelf F} {cs : List Call} {os : List Outcome} → Use K value first cs os s → (i : ℕ) → i < length cs → (c : Call) (o : Outcome) → CallAt K value first cs os i c o
+  use_each {first} {cs = cs} {os = os} u i l c o =
+      let d = call_leads u i l c o in
+      record {
+        before = after u i;
+        lent = d.lent;
+        left = d.left;
+        until = use_until u i (omega arith);
+        does = d.does;
+        with_it = subst (Use K value first (take (suc i) cs) (take (suc i) os)) (sym d.shelf) (use_until u (suc i) (omega arith));
+      }
+
+  -- and the calls from there on are made on that shelf
   pub use_onward : {first s : Shelf F} {cs : List Call} {os : List Outcome} (u : Use K value first cs os s) (i : ℕ) → i ≤ length cs → Use K value (after u i) (drop i cs) (drop i os) s
   use_onward {first} none i l = let e : 0 ≡ i = omega arith in subst (λ j. Use K value (get_or (first ∷ []) j first) (drop j []) (drop j []) first) e none
   use_onward (next {cs = cs} {os = os} {s = s} u lent d x t h) i l = go (dec_le i (length cs)) (λ b. use_onward u i b)

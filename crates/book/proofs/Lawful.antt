@@ -27,8 +27,8 @@ use Rattle.book.proofs.Places.{at_same}
 use Rattle.book.proofs.Blocks.{same_sym, same_trans}
 use Rattle.book.proofs.Accepting.{placed, full, weigh_over}
 use Rattle.book.proofs.Standing.{Good, Stands, anywhere, source}
-use Rattle.book.proofs.Uses.{use_booked, use_stands, use_each, run_use}
-use Rattle.book.proofs.Courses.{after, use_course, use_until, use_onward, use_joined, untouched_to}
+use Rattle.book.proofs.Uses.{use_booked, use_stands, run_use}
+use Rattle.book.proofs.Courses.{after, use_course, use_until, use_each, use_onward, use_joined, untouched_to}
 use Rattle.book.proofs.Staying.{Stays, stays_table, stands_range, untouched_stays, use_memory}
 
 module _ {V : Type 0} (K : FiniteField V) (S T : Table V) where

@@ -60,34 +60,6 @@ module _ {V : Type 0} (K : FiniteField V) {F : Type 0} (value : F → V) (told_a
       step_stands (lending s l) t r.0 B (Changes c o) i (heard K value told_apart (lending s l) t r.0 i B c o d r.2)
 
 module _ {V : Type 0} (K : FiniteField V) {F : Type 0} (value : F → V) where
-  -- each call of a use
-  pub use_each : {first s : Shelf F} {cs : List Call} {os : List Outcome} → Use K value first cs os s → (i : ℕ) → i < length cs → (c : Call) (o : Outcome) → CallAt K value first cs os i c o
-  use_each none i l c o = absurd (omega arith)
-  use_each {first} (next {cs = cs} {os = os} {s = s} u lent d x t h) i l c o = go (dec_lt i (length cs)) (λ b. use_each u i b c o)
-    where
-      same : length cs ≡ length os
-      same = use_length K value u
-
-      go : Dec (i < length cs) → (i < length cs → CallAt K value first cs os i c o) → CallAt K value first (cs ++ d ∷ []) (os ++ x ∷ []) i c o
-      go (yes b) earlier = let r = earlier b in record {
-        before = r.before;
-        lent = r.lent;
-        left = r.left;
-        until = subst₂ (λ a b. Use K value first a b r.before) (sym (take-append-le i cs (d ∷ []) (omega arith))) (sym (take-append-le i os (x ∷ []) (omega (arith, same)))) r.until;
-        does = subst₂ (λ a b. Does K value (lending r.before r.lent) a b r.left) (sym (get_or_append_left cs (d ∷ []) c i b)) (sym (get_or_append_left os (x ∷ []) o i (omega (arith, same)))) r.does;
-        with_it = subst₂ (λ a b. Use K value first a b r.left.shelf) (sym (take-append-le (suc i) cs (d ∷ []) (omega arith))) (sym (take-append-le (suc i) os (x ∷ []) (omega (arith, same)))) r.with_it;
-      }
-      go (no b) earlier =
-          let e : i ≡ length cs = omega (arith, length-append cs (d ∷ [])) in
-          record {
-            before = s;
-            lent = lent;
-            left = t;
-            until = subst₂ (λ a b. Use K value first a b s) (sym (take_at cs (d ∷ []) i (sym e))) (sym (take_at os (x ∷ []) i (sym (e ∙ same)))) u;
-            does = subst₂ (λ a b. Does K value (lending s lent) a b t) (sym (get_or_at cs d [] c i (sym e))) (sym (get_or_at os x [] o i (sym (e ∙ same)))) h;
-            with_it = subst₂ (λ a b. Use K value first a b t.shelf) (sym (take_all (suc i) (cs ++ d ∷ []) (omega (arith, length-append cs (d ∷ []))))) (sym (take_all (suc i) (os ++ x ∷ []) (omega (arith, length-append os (x ∷ []), same)))) (next u lent d x t h);
-          }
-
   -- requested calls are a use
   pub run_use : {first t : State F} {rs : List Request} {os : List Outcome} → Run K value first rs os t → Use K value first.shelf (map call_in rs) os t.shelf
   run_use run.none = none

@@ -2,12 +2,13 @@
 use Rattle.std.proofs.Common.{◌≡◌, ℕ, ◌<◌, ◌≤◌, ◌≢◌, List, length, sym, subst, inl, inr, arith}
 use native.Mathlib.Decide.{dec_lt}
 use Rattle.field.specs.FiniteField.{FiniteField}
+use Rattle.text.specs.Texts.{text_of, text_size}
 use Rattle.book.specs.Shelves.{empty, State, Place, entry, states_of, letters_of}
 use Rattle.book.specs.Calls.{load, reduce, compare, write}
 use Rattle.book.specs.Refusals.{refusal_number}
 use Rattle.book.specs.Refusing.{Meets, outside, short_memory, short_work, vacant, compare_letters, write_room, load_fault, Refuses}
 use Rattle.book.specs.declared.refusal.Refusal.{Refusal}
-use Rattle.book.specs.declared.refusal.Refusal.TheVariants.{MemoryShort, WorkShort}
+use Rattle.book.specs.declared.refusal.Refusal.TheVariants.{MemoryShort, WorkShort, OutputShort}
 use Rattle.book.proofs.OneRefusal.{high}
 use Rattle.packing.specs.Packing.{Reduction, Hindered, short_memory as no_memory, short_work as no_work, unreadable, short_output}
 
@@ -46,6 +47,14 @@ module _ {V : Type 0} (K : FiniteField V) {F : Type 0} (s : State F) where
         go r (vacant p b d) least = absurd b
         go r (load_fault {f = f} x) least = unreadable f (memory_enough (λ m. let y = least MemoryShort m in omega (arith, high f))) (work_enough (λ m. let y = least WorkShort m in omega (arith, high f))) x e
 
+  -- write found room for the text where a short output would have decided
+  pub room_enough : (¬ (Meets K s (write 2) OutputShort)) → text_size (states_of (entry s.shelf 2)) (letters_of (entry s.shelf 2)) ≤ length s.lent.output
+  room_enough h = go (dec_lt (length s.lent.output) (text_size (states_of (entry s.shelf 2)) (letters_of (entry s.shelf 2))))
+    where
+      go : Dec (length s.lent.output < text_size (states_of (entry s.shelf 2)) (letters_of (entry s.shelf 2))) → text_size (states_of (entry s.shelf 2)) (letters_of (entry s.shelf 2)) ≤ length s.lent.output
+      go (yes l) = absurd (h (write_room l))
+      go (no u) = omega arith
+
   module _ (memory : 12544 ≤ length s.shelf.memory) where
     module _ (work : 8192 ≤ s.lent.work) (full : entry s.shelf 1 ≢ empty) where
       pub never_reduce : (r : Refusal) → Meets K s (reduce 1 2) r → ⊥
@@ -71,13 +80,13 @@ module _ {V : Type 0} (K : FiniteField V) {F : Type 0} (s : State F) where
       never_compare full₂ alike r (compare_letters u) = u alike
 
     -- write stops for want of room only
-    pub write_hindered : (value : F → V) (text : List ℕ) (work : ℕ) (xs ys : List F) (d : Reduction K value text xs ys) → 12544 ≤ length xs → 8192 ≤ work → d.packed.states ≡ states_of (entry s.shelf 2) → d.packed.letters ≡ letters_of (entry s.shelf 2)
+    pub write_hindered : (value : F → V) (text : List ℕ) (work : ℕ) (xs ys : List F) (d : Reduction K value text xs ys) → 12544 ≤ length xs → 8192 ≤ work → length (text_of K d.packed) ≡ text_size (states_of (entry s.shelf 2)) (letters_of (entry s.shelf 2))
         → entry s.shelf 2 ≢ empty → (r : Refusal) → Meets K s (write 2) r → Hindered K value text work (length s.lent.output) xs ys r
-    write_hindered value text work xs ys d m k n l full r (outside p (inl (inl e)) u) = absurd (u (subst Place (sym e) second))
-    write_hindered value text work xs ys d m k n l full r (outside p (inl (inr b)) u) = absurd b
-    write_hindered value text work xs ys d m k n l full r (outside p (inr b) u) = absurd b
-    write_hindered value text work xs ys d m k n l full r (short_memory h) = absurd (omega arith)
-    write_hindered value text work xs ys d m k n l full r (short_work h) = absurd (omega arith)
-    write_hindered value text work xs ys d m k n l full r (vacant p (inl e) z) = absurd (full (subst (λ q. entry s.shelf q ≡ empty) e z))
-    write_hindered value text work xs ys d m k n l full r (vacant p (inr b) z) = absurd b
-    write_hindered value text work xs ys d m k n l full r (write_room h) = short_output m k d (rw (n, l) h)
+    write_hindered value text work xs ys d m k n full r (outside p (inl (inl e)) u) = absurd (u (subst Place (sym e) second))
+    write_hindered value text work xs ys d m k n full r (outside p (inl (inr b)) u) = absurd b
+    write_hindered value text work xs ys d m k n full r (outside p (inr b) u) = absurd b
+    write_hindered value text work xs ys d m k n full r (short_memory h) = absurd (omega arith)
+    write_hindered value text work xs ys d m k n full r (short_work h) = absurd (omega arith)
+    write_hindered value text work xs ys d m k n full r (vacant p (inl e) z) = absurd (full (subst (λ q. entry s.shelf q ≡ empty) e z))
+    write_hindered value text work xs ys d m k n full r (vacant p (inr b) z) = absurd b
+    write_hindered value text work xs ys d m k n full r (write_room h) = short_output m k d (rw n h)

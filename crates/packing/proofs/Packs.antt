@@ -5,18 +5,19 @@ use Rattle.series.specs.Words.{Word, Over}
 use Rattle.series.specs.Tables.{Table, weight, SameTable}
 use Rattle.series.specs.Reducing.{Reduced}
 use Rattle.series.proofs.Weights.{same_weight}
-use Rattle.series.proofs.ReducedForms.{reduced_weight, reduced_alike}
+use Rattle.series.proofs.ReducedForms.{reduced_weight, reduced_least, reduced_alike}
 use Rattle.rows.specs.Layout.{table_at}
 use Rattle.rows.specs.Tables.{TableWritten}
 use Rattle.rows.proofs.Memory.{frame_below}
-use Rattle.text.specs.Texts.{Limits}
+use Rattle.text.specs.Texts.{Limits, text_of, text_size}
+use Rattle.text.proofs.Told.{length_is}
 use Rattle.book.specs.Shelves.{Entry, empty, filled, at_place, states_of, letters_of, table}
 use Rattle.book.specs.Calls.{load, reduce, compare, write}
 use Rattle.book.specs.Doing.{Makes, Does}
 use Rattle.book.specs.Refusing.{Refuses}
 use Rattle.book.specs.Verdicts.{Says, SaysAlike}
 use Rattle.book.specs.declared.refusal.Refusal.{Refusal}
-use Rattle.book.specs.declared.refusal.Refusal.TheVariants.{MemoryShort, WorkShort}
+use Rattle.book.specs.declared.refusal.Refusal.TheVariants.{MemoryShort, WorkShort, OutputShort}
 use Rattle.book.specs.declared.verdict.Verdict.{Verdict}
 use Rattle.book.specs.declared.outcome.Answer.{Answer}
 use Rattle.book.specs.declared.outcome.Answer.TheVariants.{Done, Code, Told, Count}
@@ -26,7 +27,7 @@ use Rattle.shelf.specs.Views.{entry_of, shelf_of, state}
 use Rattle.shelf.specs.declared.entry.Entry.{Entry as EntryCode}
 use Rattle.packing.specs.Packing.{Reduction, Packs, Hindered}
 use Rattle.packing.proofs.Same.{text_same, reduced_table}
-use Rattle.packing.proofs.Hindrances.{first, second, memory_enough, work_enough, never_reduce, never_compare, write_hindered}
+use Rattle.packing.proofs.Hindrances.{first, second, memory_enough, work_enough, room_enough, never_reduce, never_compare, write_hindered}
 
 abbrev count_in : Answer → ℕ
 count_in Done = 0
@@ -139,6 +140,14 @@ module _ {V : Type 0} (K : FiniteField V) {F : Type 0} (value : F → V) (text :
           (record { same = same_by_values K value mem₂ mem₂ 1568 R₀.states R₀.letters (λ i low high. refl); frame = reducing.numbers.frame });
     }
 
+    -- the reduced form's text goes by its size
+    size : length (text_of K R) ≡ text_size R.states R.letters
+    size = length_is K R (record {
+      states = omega (arith, reduced_least K T.letters (weight K T) R TReduced T (λ u o. refl), reduction.sized.states);
+      some_letter = omega (arith, TReduced.letters, reduction.sized.some_letter);
+      letters = omega (arith, TReduced.letters, reduction.sized.letters);
+    })
+
     memory₂ : 12544 ≤ length mem₂
     memory₂ = omega (arith, memory₁, reducing.numbers.frame.len)
 
@@ -152,7 +161,7 @@ module _ {V : Type 0} (K : FiniteField V) {F : Type 0} (value : F → V) (text :
 
     -- and is written, unless there is no room for it
     pub writes_then : (w₃ : ℕ) (v' : Verdict) (r : Refusal) → Refuses K (state es₂ mem₂ w₃ out v') (write 2) r → Hindered K value text w (length out) mem mem₂ r
-    writes_then w₃ v' r h = write_hindered K (state es₂ mem₂ w₃ out v') memory₂ value text w mem mem₂ reduction memory working refl refl full_2 r h.meets
+    writes_then w₃ v' r h = write_hindered K (state es₂ mem₂ w₃ out v') memory₂ value text w mem mem₂ reduction memory working size full_2 r h.meets
 
     alike : (u : Word) → Over T.letters u → weight K T u ≡ weight K R u
     alike u o = sym (reduced_weight K T.letters (weight K T) R TReduced u o)
@@ -163,9 +172,12 @@ module _ {V : Type 0} (K : FiniteField V) {F : Type 0} (value : F → V) (text :
 
     module _ (w₃ : ℕ) (v' : Verdict) (compares : Does K value (state es₂ mem₂ w₂ out v) (compare 1 2) (Ok (Told v')) (state es₂ mem₂ w₃ out v')) (n : ℕ) (out' : List ℕ)
         (writes : Does K value (state es₂ mem₂ w₃ out v') (write 2) (Ok (Count n)) (state es₂ mem₂ w₃ out' v')) where
-      pub packs : (before after : ℕ) → before ≡ states_of (at_place empty (map entry_of es₂) 1) → after ≡ states_of (at_place empty (map entry_of es₂) 2) → Packs K value text mem mem₂ out out' (record { before = before; after = after; bytes = n; verdict = v' })
+      pub packs : (before after : ℕ) → before ≡ states_of (at_place empty (map entry_of es₂) 1) → after ≡ states_of (at_place empty (map entry_of es₂) 2) → Packs K value text w mem mem₂ out out' (record { before = before; after = after; bytes = n; verdict = v' })
       packs before after b a = record {
+        memory_enough = memory;
+        work_enough = working;
         reduction = reduction;
+        room = omega (arith, size, room_enough K (state es₂ mem₂ w₃ out v') (writes.0 OutputShort));
         written = ap (λ l. l.output) writes.1.1.lent;
         counted = ap count_in writes.1.0;
         before = b;

@@ -4,7 +4,7 @@ use Rattle.field.specs.FiniteField.{FiniteField}
 use Rattle.series.specs.Tables.{Table, weight}
 use Rattle.series.specs.Reducing.{Reduced}
 use Rattle.rows.specs.Tables.{TableWritten}
-use Rattle.text.specs.Texts.{text_of, text_size}
+use Rattle.text.specs.Texts.{text_of}
 use Rattle.text.specs.Readings.{Sized, Refuses}
 use Rattle.faults.specs.declared.LoadFault.{LoadFault}
 use Rattle.book.specs.Verdicts.{SaysAlike}
@@ -25,10 +25,13 @@ module _ {V : Type 0} (K : FiniteField V) {F : Type 0} (value : F → V) where
     pub table_written : TableWritten K value 0 table xs between
     pub packed_written : TableWritten K value 1568 packed between ys
 
-  -- a text is packed: the text of the reduced form stands at the front of the output, and later bytes stay; the answer tells how many states the two tables
-  -- have and how many bytes were written, and its verdict says that the two weigh every word alike
-  pub record Packs (text : List ℕ) (xs ys : List F) (output output' : List ℕ) (p : Packed) : Type 0 where
+  -- a text is packed: the memories are large enough, the text of the reduced form fits the output and stands at its front, and later bytes stay; the answer tells
+  -- how many states the two tables have and how many bytes were written, and its verdict says that the two weigh every word alike
+  pub record Packs (text : List ℕ) (work : ℕ) (xs ys : List F) (output output' : List ℕ) (p : Packed) : Type 0 where
+    pub memory_enough : 12544 ≤ length xs
+    pub work_enough : 8192 ≤ work
     pub reduction : Reduction text xs ys
+    pub room : length (text_of K reduction.packed) ≤ length output
     pub written : output' ≡ text_of K reduction.packed ++ drop (length (text_of K reduction.packed)) output
     pub counted : p.bytes ≡ length (text_of K reduction.packed)
     pub before : p.before ≡ reduction.table.states
@@ -40,4 +43,4 @@ module _ {V : Type 0} (K : FiniteField V) {F : Type 0} (value : F → V) where
     short_memory : length xs < 12544 → ys ≡ xs → Hindered text work room xs ys MemoryShort
     short_work : 12544 ≤ length xs → work < 8192 → ys ≡ xs → Hindered text work room xs ys WorkShort
     unreadable : (f : LoadFault) → 12544 ≤ length xs → 8192 ≤ work → Refuses K text f → ys ≡ xs → Hindered text work room xs ys (Unreadable f)
-    short_output : 12544 ≤ length xs → 8192 ≤ work → (r : Reduction text xs ys) → room < text_size r.packed.states r.packed.letters → Hindered text work room xs ys OutputShort
+    short_output : 12544 ≤ length xs → 8192 ≤ work → (r : Reduction text xs ys) → room < length (text_of K r.packed) → Hindered text work room xs ys OutputShort

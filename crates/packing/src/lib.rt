@@ -31,7 +31,7 @@ pub fn pack<F: Field>(
     output: &mut [u8],
     text: &[u8],
 ) -> Result<Packed, Refusal>
-    ensures packs_or_hindered { MatchResult result (λ p. Packs F.field F.value text.now shelf.old shelf.new output.old output.new p) (λ f. Hindered F.field F.value text.now (length work.old) (length output.old) shelf.old shelf.new f × (output.new ≡ output.old)) }
+    ensures packs_or_hindered { MatchResult result (λ p. Packs F.field F.value text.now (length work.old) shelf.old shelf.new output.old output.new p) (λ f. Hindered F.field F.value text.now (length work.old) (length output.old) shelf.old shelf.new f × (output.new ≡ output.old)) }
 {
     let mut directory = Directory::open();
     let mut verdict = Verdict::blank();

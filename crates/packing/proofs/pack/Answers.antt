@@ -17,7 +17,7 @@ returns-in_err-load g c =
     let s = state c.open-directory.result.entries mem (length c.args.work.now) out c.blank-verdict.result in
     let d = c.in_err-load.ensures.does out c.blank-verdict.result in
     record {
-      packs_or_hindered = stopped (Packs K v text mem mem₁ out out) (λ f. Hindered K v text (length c.args.work.now) (length out) mem mem₁ f × (out ≡ out)) c.from_residual.result (err_from_is_err_and c.from_residual.result c.from_residual.ensures.1)
+      packs_or_hindered = stopped (Packs K v text (length c.args.work.now) mem mem₁ out out) (λ f. Hindered K v text (length c.args.work.now) (length out) mem mem₁ f × (out ≡ out)) c.from_residual.result (err_from_is_err_and c.from_residual.result c.from_residual.ensures.1)
           (load_hindered K s text v (length out) mem₁ c.in_err-load.field-0.0 d.0 (ap (λ t. t.shelf.memory) d.1), refl);
     }
 
@@ -50,7 +50,7 @@ returns-in_err-bytes g c =
     let z' = c.compare.new.verdict in
     let d = c.in_err-bytes.ensures.does w₃ z' in
     record {
-      packs_or_hindered = stopped (Packs K v text mem mem₂ out out') (λ f. Hindered K v text (length c.args.work.now) (length out) mem mem₂ f × (out' ≡ out)) c.from_residual-in_err-bytes.result
+      packs_or_hindered = stopped (Packs K v text (length c.args.work.now) mem mem₂ out out') (λ f. Hindered K v text (length c.args.work.now) (length out) mem mem₂ f × (out' ≡ out)) c.from_residual-in_err-bytes.result
           (err_from_is_err_and c.from_residual-in_err-bytes.result c.from_residual-in_err-bytes.ensures.1) (
             writes_then K v text c.open-directory.result.entries c.load.new.self.entries mem c.load.new.shelf (length c.args.work.now) (length c.load.new.work) out z
                 c.open-directory.ensures.all_empty (c.in_ok-load.ensures.does out z) c.reduce.new.self.entries mem₂ (length c.reduce.new.work) (c.in_ok-reduce.ensures.does out z)
