@@ -64,8 +64,12 @@ fn refused(rt: &HostRuntime, name: &str, refusal: Refusal) -> anyhow::Error
 // Writes the packed text to the second file, or else to standard output.
 fn write(rt: &HostRuntime, files: &[String], packed: &[u8]) -> anyhow::Result<()> {
     match files.get(1) {
-        Some(out) => fs::write(rt, out.as_str(), packed)
-            .map_err(|e| failed(rt, out.as_str(), e, "the packed text cannot be written")),
+        Some(out) => fs::write(rt, out.as_str(), packed).map_err(|e| failed(
+            rt,
+            out.as_str(),
+            e,
+            "the packed text cannot be written",
+        )),
         None => Ok(rt.stdout().write_all(packed)?),
     }
 }
@@ -90,8 +94,9 @@ impl OverField for Packing<'_> {
         let mut shelf = [F::zero(); 12544];
         let mut work = [F::zero(); 8192];
         let mut output = [0u8; 19593];
-        let done = pack(&mut shelf, &mut work, &mut output, text)
-            .map_err(|refusal| refused(rt, name, refusal))?;
+        let done = pack(&mut shelf, &mut work, &mut output, text).map_err(|refusal| refused(
+            rt, name, refusal,
+        ))?;
         // By the contract of `pack` neither can be; the text is not written where one is.
         if done.verdict.kind != Kind::Alike || done.bytes > output.len() {
             return Err(anyhow!("the packed table weighs some word differently"));
@@ -104,8 +109,12 @@ impl OverField for Packing<'_> {
 // Reads the text, and packs it over the field that is named, in the command line or else in the text.
 fn work(rt: &HostRuntime, field: Option<Offered>, files: &[String]) -> anyhow::Result<()> {
     let name = name_or(files, 0, "table");
-    let text = read_file(rt, name, MOST)
-        .map_err(|e| failed(rt, name, e, "the file cannot be read"))?;
+    let text = read_file(rt, name, MOST).map_err(|e| failed(
+        rt,
+        name,
+        e,
+        "the file cannot be read",
+    ))?;
     let text = text.as_slice();
     let field = field.or(Offered::named_in(text));
     with_field(

@@ -55,11 +55,12 @@ impl<T: Drop> From<AllocFailed<T>> for Reason {
     }
 }
 
-impl fmt::Display for Reason {
-    ghost output = { λ reason. Some (reason_text reason) };
-
-    fn fmt<W: fmt::Write>(&self, f: &mut fmt::Formatter<W>) -> fmt::Result {
-        f.write_str(match self {
+impl Reason {
+    /// The reason, for a person.
+    pub fn text(self) -> &'static str
+        ensures in_words { result.now ≡ reason_text self }
+    {
+        match self {
             Reason::NoCall => "the first word is no call",
             Reason::WordMissing => "a word is missing",
             Reason::WordExtra => "a word is too many",
@@ -70,7 +71,15 @@ impl fmt::Display for Reason {
             Reason::TextNotEnded => "a newline is due after the text",
             Reason::FileUnreadable => "the file cannot be read",
             Reason::NoMemory => "there is no memory for it",
-        })
+        }
+    }
+}
+
+impl fmt::Display for Reason {
+    ghost output = { λ reason. Some (reason_text reason) };
+
+    fn fmt<W: fmt::Write>(&self, f: &mut fmt::Formatter<W>) -> fmt::Result {
+        f.write_str(self.text())
     }
 }
 

@@ -52,7 +52,7 @@ fn end(line: &[u8]) -> Result<(), Reason>
     }
 }
 
-// The N numbers that the line is, and no more. A usize has 64 bits: each cast to and from it loses nothing, by its proof.
+// The N numbers that the line is, and no more.
 fn numbers<const N: usize>(line: &[u8]) -> Result<[usize; N], Reason>
     ensures read { IfOk result (λ ns. Numbers line.now ns) }
 {
@@ -60,7 +60,7 @@ fn numbers<const N: usize>(line: &[u8]) -> Result<[usize; N], Reason>
     let mut rest = line;
     for n in all.iter_mut() {
         let (first, after) = word(rest)?;
-        *n = number(first)? as usize;
+        *n = usize::try_from(number(first)?)?;
         rest = after;
     }
     end(rest)?;
@@ -99,7 +99,7 @@ fn field(line: &[u8]) -> Result<Offered, Reason>
     ensures read { IfOk result (λ o. Numbers line.now (q_of o ∷ [])) }
 {
     let [q] = numbers::<1>(line)?;
-    Ok(Offered::try_from(q as u64)?)
+    Ok(Offered::try_from(u64::try_from(q)?)?)
 }
 
 // The call of weigh, with the place and the letters that the line is.
@@ -107,55 +107,73 @@ fn weigh(heap: Global, line: &[u8]) -> Result<Call<Vec<u8>>, Reason>
     ensures read { IfOk result (λ a. (verb_of a ≡ Weigh) × Arguments a line.now) }
 {
     let (first, rest) = word(line)?;
-    let place = number(first)? as usize;
+    let place = usize::try_from(number(first)?)?;
     let word = letters(heap, rest)?;
     Ok(Call::Weigh { place, word })
 }
 
-// The call of a verb that names places, and a code or a letter, and no text or word.
+// The call of a verb with three numbers.
+fn call_of_three(verb: Verb, line: &[u8]) -> Result<Call<Vec<u8>>, Reason>
+    ensures read { IfOk result (λ a. (verb_of a ≡ verb) × Arguments a line.now) }
+{
+    let [first, second, to] = numbers::<3>(line)?;
+    match verb {
+        Verb::Sum => Ok(Call::Sum { first, second, to }),
+        Verb::Multiply => Ok(Call::Multiply { first, second, to }),
+        Verb::Scale => Ok(Call::Scale {
+            place: first,
+            code: u64::try_from(second)?,
+            to,
+        }),
+        Verb::After => Ok(Call::After {
+            place: first,
+            letter: u8::try_from(second)?,
+            to,
+        }),
+        _ => Err(Reason::NoCall),
+    }
+}
+
+// The call of a verb with two numbers.
+fn call_of_two(verb: Verb, line: &[u8]) -> Result<Call<Vec<u8>>, Reason>
+    ensures read { IfOk result (λ a. (verb_of a ≡ verb) × Arguments a line.now) }
+{
+    let [first, second] = numbers::<2>(line)?;
+    match verb {
+        Verb::Turn => Ok(Call::Turn {
+            place: first,
+            to: second,
+        }),
+        Verb::Reduce => Ok(Call::Reduce {
+            place: first,
+            to: second,
+        }),
+        Verb::Compare => Ok(Call::Compare { first, second }),
+        _ => Err(Reason::NoCall),
+    }
+}
+
+// The call of a verb with one number.
+fn call_of_one(verb: Verb, line: &[u8]) -> Result<Call<Vec<u8>>, Reason>
+    ensures read { IfOk result (λ a. (verb_of a ≡ verb) × Arguments a line.now) }
+{
+    let [place] = numbers::<1>(line)?;
+    match verb {
+        Verb::Write => Ok(Call::Write { place }),
+        Verb::Clear => Ok(Call::Clear { place }),
+        _ => Err(Reason::NoCall),
+    }
+}
+
+// The call of a verb that names places, and a code, a letter or a word, and no text.
 fn call(heap: Global, verb: Verb, line: &[u8]) -> Result<Call<Vec<u8>>, Reason>
     ensures read { IfOk result (λ a. (verb_of a ≡ verb) × Arguments a line.now) }
 {
     match verb {
-        Verb::Sum => {
-            let [first, second, to] = numbers::<3>(line)?;
-            Ok(Call::Sum { first, second, to })
-        }
-        Verb::Scale => {
-            let [place, code, to] = numbers::<3>(line)?;
-            let code = code as u64;
-            Ok(Call::Scale { place, code, to })
-        }
-        Verb::Multiply => {
-            let [first, second, to] = numbers::<3>(line)?;
-            Ok(Call::Multiply { first, second, to })
-        }
-        Verb::After => {
-            let [place, letter, to] = numbers::<3>(line)?;
-            let letter = u8::try_from(letter)?;
-            Ok(Call::After { place, letter, to })
-        }
-        Verb::Turn => {
-            let [place, to] = numbers::<2>(line)?;
-            Ok(Call::Turn { place, to })
-        }
-        Verb::Reduce => {
-            let [place, to] = numbers::<2>(line)?;
-            Ok(Call::Reduce { place, to })
-        }
+        Verb::Sum | Verb::Scale | Verb::Multiply | Verb::After => call_of_three(verb, line),
+        Verb::Turn | Verb::Reduce | Verb::Compare => call_of_two(verb, line),
+        Verb::Write | Verb::Clear => call_of_one(verb, line),
         Verb::Weigh => weigh(heap, line),
-        Verb::Compare => {
-            let [first, second] = numbers::<2>(line)?;
-            Ok(Call::Compare { first, second })
-        }
-        Verb::Write => {
-            let [place] = numbers::<1>(line)?;
-            Ok(Call::Write { place })
-        }
-        Verb::Clear => {
-            let [place] = numbers::<1>(line)?;
-            Ok(Call::Clear { place })
-        }
         _ => Err(Reason::NoCall),
     }
 }

@@ -18,10 +18,8 @@ use book::call::{Call, Request};
 use book::outcome::{Answer, Outcome};
 use book::refusal::Refusal;
 use book::verdict::Verdict;
-use byte::Byte;
-use command::offered::Offered;
+use command::offered::{Offered, OverField, with_field};
 use field::Field;
-use residue::{Bit, Fermat};
 use shelf::directory::Directory;
 use std::alloc::{AllocError, Global};
 use std::error::Error;
@@ -135,14 +133,23 @@ impl Session {
         }
         Ok(())
     }
+}
 
-    // The same on a shelf over an offered field.
-    fn over_offered(&mut self, field: Offered, lines: &[Line]) -> Result<(), AllocError> {
-        match field {
-            Offered::Bits => self.over::<Bit>(lines),
-            Offered::Bytes => self.over::<Byte>(lines),
-            Offered::Fermat => self.over::<Fermat>(lines),
-        }
+// The lines of a session that are to be performed on a shelf over the field that is chosen.
+struct Section<'a> {
+    session: &'a mut Session,
+    lines: &'a [Line],
+}
+
+impl OverField for Section<'_> {
+    type Output = Result<(), AllocError>;
+
+    // How outcomes are worded is not stated.
+    ghost gives = { λ q section done. Unit {0} };
+
+    fn over<F: Field>(self) -> Result<(), AllocError> {
+        let Section { session, lines } = self;
+        session.over::<F>(lines)
     }
 }
 
@@ -155,10 +162,18 @@ pub fn perform(heap: Global, script: &Script) -> Result<Vec<u8>, AllocError> {
     };
     let shown = Vec::new(heap);
     let mut session = Session { heap, given, shown };
-    session.over_offered(Offered::Fermat, lines)?;
+    let begun = Section {
+        session: &mut session,
+        lines,
+    };
+    with_field(Offered::Fermat, begun)?;
     for (i, line) in lines.iter().enumerate() {
         if let Entry::Order(Order::Field(field)) = &line.entry {
-            session.over_offered(*field, &lines[i + 1..])?;
+            let section = Section {
+                session: &mut session,
+                lines: &lines[i + 1..],
+            };
+            with_field(*field, section)?;
         }
     }
     Ok(session.shown)

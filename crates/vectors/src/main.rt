@@ -19,7 +19,7 @@ fn block(stream: &[u8]) -> Option<(&[u8], &[u8])>
 {
     let (digits, rest) = stream.split_at(before(stream, b'\n'));
     let (_, rest) = rest.split_first()?;
-    let size = number(digits).ok()? as usize;
+    let size = usize::try_from(number(digits).ok()?).ok()?;
     let (text, rest) = rest.split_at_checked(size)?;
     let (_, rest) = rest.split_first()?;
     Some((text, rest))

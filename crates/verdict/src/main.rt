@@ -1,18 +1,21 @@
 //! Compares two tables: reads their texts, and writes the line that reports on them.
 #![tactic(auto)]
 
-ghost use Rattle.std.specs.Prelude.{◌≤◌, IfOk, IsErr, vec_len};
+ghost use Rattle.std.specs.Prelude.{◌*◌, ◌^◌, ◌<◌, ◌≤◌, IfOk, vec_len};
+ghost use Rattle.std.specs.Mem.{type_size};
 ghost use Rattle.verdict.specs.Reporting.{ReportsOver};
 
 use anyhow::anyhow;
-use command::VERSION;
-use command::files::{MOST, read_if_there};
-use command::offered::Offered;
-use command::wish::{Wish, asked_for, name_or};
+use command::files::{MOST, failed, read_if_there};
+use command::offered::{Offered, OverField, with_field};
+use command::program::Program;
+use command::wish::name_or;
+use field::Field;
 use report::{report, report_bits, report_bytes};
 use std::io;
 use std::io::Write;
 use std::process::ExitCode;
+use text::table::read_table;
 
 const HELP: &str = "usage: verdict [--field Q] [FIRST SECOND]
 
@@ -30,14 +33,22 @@ text), and writes one line to standard output, numbers in 11 columns each:
   --help      tells this
   --version   tells the version
 
-The status is 0 where a line was written, and 1 where a file cannot be read or
-the command line is wrong.";
+A text that is refused is told on standard error too, with its file, line,
+column and the reason. The status is 0 where a line was written, and 1 where a
+file cannot be read or the command line is wrong.";
+
+const VERDICT: Program<'static> = Program {
+    name: "verdict",
+    usage: HELP,
+    files: 2,
+};
 
 // The line that reports on two texts, over a field that is offered: how many bytes it has.
 fn report_offered(field: Offered, first: &[u8], second: &[u8], line: &mut [u8]) -> usize
     ensures reports { ReportsOver field first.now second.now line.old result line.new }
     ensures at_most_387 { result ≤ 387 }
 {
+    // Not a step over the field: each function here tells what it reports by the definition of its own field.
     match field {
         Offered::Bits => report_bits(first, second, line),
         Offered::Bytes => report_bytes(first, second, line),
@@ -45,52 +56,83 @@ fn report_offered(field: Offered, first: &[u8], second: &[u8], line: &mut [u8]) 
     }
 }
 
-// Tells that a file cannot be read, and why.
-fn unread<T>(rt: &HostRuntime, name: &str, e: io::Error) -> anyhow::Result<T>
-    ensures failed { IsErr result }
+// A text, and the name of its file.
+#[derive(Clone, Copy)]
+struct Named<'a> {
+    name: &'a str,
+    text: &'a [u8],
+}
+
+// Two texts, the first refused of which is to be told, over the field that is chosen.
+struct Refused<'a> {
+    rt: &'a HostRuntime,
+    first: Named<'a>,
+    second: Named<'a>,
+}
+
+// Tells why a text is refused, and where; whether it is.
+fn tell_refused<F: Field>(rt: &HostRuntime, named: Named<'_>) -> io::Result<bool>
+    requires elements_fit { 12544 * type_size F.row < 2 ^ 63 }
 {
-    eprintln!(rt; "{name}: {e}")?;
-    Err(anyhow!("a file cannot be read"))
+    let mut memory = [F::zero(); 1568];
+    let Err(fault) = read_table(named.text, &mut memory) else {
+        return Ok(false);
+    };
+    let name = named.name;
+    let (line, column) = fault.position();
+    eprintln!(rt; "{name}: line {line}, column {column}: {fault}")?;
+    Ok(true)
+}
+
+impl OverField for Refused<'_> {
+    type Output = io::Result<()>;
+
+    // What is told is no part of the result.
+    ghost gives = { λ q texts done. Unit {0} };
+
+    fn over<F: Field>(self) -> io::Result<()> {
+        let Refused { rt, first, second } = self;
+        if !tell_refused::<F>(rt, first)? {
+            tell_refused::<F>(rt, second)?;
+        }
+        Ok(())
+    }
 }
 
 // Reads a file; one that is there and cannot be read is told.
 fn read(rt: &HostRuntime, name: &str) -> anyhow::Result<Vec<u8>>
     ensures within { IfOk result (λ v. vec_len v ≤ MOST) }
 {
-    read_if_there(rt, name).or_else(|e| unread(rt, name, e))
+    read_if_there(rt, name, MOST).map_err(|e| failed(rt, name, e, "a file cannot be read"))
 }
 
-// Reads both texts, and writes the line.
+// Reads both texts, and writes the line; a text that is refused is told.
 fn work(rt: &HostRuntime, field: Offered, files: &[String]) -> anyhow::Result<()> {
-    let first = read(rt, name_or(files, 0, "first"))?;
-    let second = read(rt, name_or(files, 1, "second"))?;
+    let names = (name_or(files, 0, "first"), name_or(files, 1, "second"));
+    let first = read(rt, names.0)?;
+    let second = read(rt, names.1)?;
     let mut line = [0u8; 387];
     let count = report_offered(field, first.as_slice(), second.as_slice(), &mut line);
     rt.stdout().write_all(&line[..count])?;
-    Ok(())
-}
-
-// Does what the command line asks for.
-fn run(rt: &HostRuntime) -> anyhow::Result<()> {
-    match asked_for(rt, 2)? {
-        Wish::Help => println!(rt; "{HELP}")?,
-        Wish::Version => println!(rt; "verdict, {VERSION}")?,
-        Wish::Work { field, files } => {
-            if files.len() == 1 {
-                return Err(anyhow!("two files are due, or none: --help tells which"));
-            }
-            work(rt, field.unwrap_or(Offered::Fermat), files.as_slice())?
-        }
+    if line[0] == b'R' {
+        let first = Named {
+            name: names.0,
+            text: first.as_slice(),
+        };
+        let second = Named {
+            name: names.1,
+            text: second.as_slice(),
+        };
+        with_field(field, Refused { rt, first, second })?;
     }
     Ok(())
 }
 
-fn main(rt: HostRuntime) -> anyhow::Result<ExitCode> {
-    match run(&rt) {
-        Ok(()) => Ok(ExitCode::SUCCESS),
-        Err(e) => {
-            eprintln!(rt; "verdict: {e}")?;
-            Ok(ExitCode::FAILURE)
+fn main(rt: HostRuntime) -> io::Result<ExitCode> {
+    VERDICT.run(&rt, |field, files| {
+        if files.len() == 1 {
+            return Err(anyhow!("two files are due, or none: --help tells which"));
         }
-    }
+        work(&rt, field.unwrap_or(Offered::Fermat), files.as_slice())
+    })
 }
