@@ -312,6 +312,40 @@ mod tests {
         check_alike(&rt, &mut work, plain, other, (5, 2))
     }
 
+    // Elements that are not zero lie before, between and behind the tables.
+    #[test]
+    fn tables_amid_other_elements(rt: HostRuntime) -> Result<(), Fail> {
+        let mut work = [Fermat::zero(); 8192];
+        let nine = Fermat::from_code(9).ok_or("a code below the order is refused")?;
+        let mut shelf = [nine; 64];
+        put(
+            &mut shelf,
+            &[
+                (10, 1),
+                (11, 1),
+                (12, 1),
+                (13, 1),
+                (14, 2),
+                (15, 1),
+                (40, 1),
+                (41, 1),
+                (42, 0),
+            ],
+        )?;
+        let ones = table(&shelf, 10, 1, 1);
+        let powers = table(&shelf, 13, 1, 1);
+        let zeros = table(&shelf, 40, 1, 1);
+        check_alike(&rt, &mut work, ones, ones, (2, 1))?;
+        check_differ(
+            &rt,
+            &mut work,
+            ones,
+            powers,
+            [1, 2, 1000000000000000, 0, 1, 2],
+        )?;
+        check_differ(&rt, &mut work, zeros, ones, [0, 1, 0, 0, 0, 1])
+    }
+
     #[test]
     fn zeros_and_no_states(rt: HostRuntime) -> Result<(), Fail> {
         let mut work = [Fermat::zero(); 8192];
