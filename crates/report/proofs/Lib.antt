@@ -4,3 +4,4 @@ mod Loads
 mod Found
 mod Single
 mod Begins
+mod Fronts

@@ -32,8 +32,8 @@ fn report_over<F: Field>(first: &[u8], second: &[u8], out: &mut [u8]) -> usize
     let mut shelf = [zero; 12544];
     let mut work = [zero; 8192];
     // These hold what the last two clauses state; nothing is done.
-    q_where_alike(zero);
-    one_line(zero);
+    q_where_alike::<F>();
+    one_line::<F>();
     tell(&mut shelf, &mut work, first, second, out)
 }
 

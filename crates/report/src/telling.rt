@@ -15,11 +15,10 @@ use field::Field;
 const LONGEST: usize = 387;
 
 // Writes a line to the front of the output: how many bytes it has.
-fn put_in_front(out: &mut [u8], first: u8, values: &[u64], letters: &[u8]) -> usize
+fn put_in_front(out: &mut [u8; LONGEST], first: u8, values: &[u64], letters: &[u8]) -> usize
     requires few { length values.now ≤ 4 }
     requires ten_digits { TenDigits values.now }
     requires few_letters { length letters.now ≤ 31 }
-    requires room { 387 ≤ length out.old }
     ensures told { AtFront (line first (values.now ++ letters.now)) out.old result out.new }
     ensures at_most { result ≤ 387 }
 {
@@ -29,8 +28,7 @@ fn put_in_front(out: &mut [u8], first: u8, values: &[u64], letters: &[u8]) -> us
 }
 
 // Writes the line of a refused text, or of the two together: how many bytes it has.
-fn put_refused(out: &mut [u8], text: u8, refusal: &Refusal) -> usize
-    requires room { 387 ≤ length out.old }
+fn put_refused(out: &mut [u8; LONGEST], text: u8, refusal: &Refusal) -> usize
     ensures told { AtFront (refused_line text refusal.now) out.old result out.new }
     ensures at_most { result ≤ 387 }
 {
@@ -45,8 +43,7 @@ fn put_refused(out: &mut [u8], text: u8, refusal: &Refusal) -> usize
 }
 
 // Writes the line of a verdict: how many bytes it has.
-fn put_verdict(out: &mut [u8], verdict: &Verdict) -> usize
-    requires room { 387 ≤ length out.old }
+fn put_verdict(out: &mut [u8; LONGEST], verdict: &Verdict) -> usize
     requires fits { Fits verdict.now }
     ensures told { AtFront (verdict_line verdict.now.kind verdict.now) out.old result out.new }
     ensures at_most { result ≤ 387 }
@@ -66,8 +63,7 @@ fn put_verdict(out: &mut [u8], verdict: &Verdict) -> usize
 }
 
 // Writes the line that tells what was found: how many bytes it has.
-fn put_finding(out: &mut [u8], found: &Result<Verdict, Rejection>) -> usize
-    requires room { 387 ≤ length out.old }
+fn put_finding(out: &mut [u8; LONGEST], found: &Result<Verdict, Rejection>) -> usize
     requires fits { IfOk found.now (λ v. Fits v) }
     ensures told { AtFront (finding_line found.now) out.old result out.new }
     ensures at_most { result ≤ 387 }
@@ -93,9 +89,9 @@ pub fn tell<F: Field>(
     ensures reports { Reports F.field first.now second.now out.old result out.new }
     ensures at_most { result ≤ 387 }
 {
-    if out.len() < LONGEST {
+    let Some(line) = out.first_chunk_mut::<LONGEST>() else {
         return 0;
-    }
+    };
     let finding = find(shelf, work, first, second);
-    put_finding(out, &finding)
+    put_finding(line, &finding)
 }

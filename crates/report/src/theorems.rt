@@ -5,15 +5,17 @@ use field::Field;
 use text::theorems::{one_text_one_table, one_verdict};
 
 /// Two texts have one line.
-pub fn one_line<F: Field>(x: F) -> F
+pub fn one_line<F: Field>()
     ensures one { OneLine F.field }
 {
-    one_verdict(one_text_one_table(x))
+    one_text_one_table::<F>();
+    one_verdict::<F>();
 }
 
 /// A line begins with Q exactly where both texts are those of tables with one letter count that weigh every word alike.
-pub fn q_where_alike<F: Field>(x: F) -> F
+pub fn q_where_alike<F: Field>()
     ensures exactly { BeginsWhereAlike F.field 81 }
 {
-    one_verdict(one_text_one_table(x))
+    one_text_one_table::<F>();
+    one_verdict::<F>();
 }
