@@ -4,7 +4,7 @@ use Rattle.field.specs.FiniteField.{FiniteField}
 use Rattle.book.specs.Shelves.{Entry, empty, Place, at_place, with_place}
 use Rattle.book.specs.declared.refusal.Refusal.{Refusal}
 use Rattle.book.specs.declared.refusal.Refusal.TheVariants.{PlaceOutside, PlaceEmpty}
-use Rattle.book.specs.Calls.{clear}
+use Rattle.book.specs.Calls.{Call}
 use Rattle.book.specs.Doing.{Does}
 use Rattle.book.specs.declared.verdict.Verdict.{Verdict}
 use Rattle.book.specs.declared.outcome.Answer.TheVariants.{Done}
@@ -17,7 +17,7 @@ Clears entries p (Ok u) left = Place p × (at_place empty entries p ≢ empty) �
 Clears entries p (Err f) left = (((f ≡ PlaceOutside) × (¬ (Place p))) ⊎ ((f ≡ PlaceEmpty) × Place p × (at_place empty entries p ≡ empty))) × (left ≡ entries)
 
 module _ {V : Type 0} (K : FiniteField V) {F : Type 0} (value : F → V) where
-  -- that is what the call does, whatever lies in shelf memory and whatever is lent
-  abbrev pub ClearsAsCalled : Type 0
-  ClearsAsCalled = (entries left : List EntryCode) (memory : List F) (work : ℕ) (output : List ℕ) (verdict : Verdict) (p : ℕ) (r : Result (Unit {0}) Refusal) → Clears (map entry_of entries) p r (map entry_of left)
-      → Does K value (state entries memory work output verdict) (clear p) (outcome_by (λ _. Done) r) (state left memory work output verdict)
+  -- that is what the call `called` of the place does, whatever lies in shelf memory and whatever is lent
+  abbrev pub ClearsAsCalled : (ℕ → Call) → Type 0
+  ClearsAsCalled called = (entries left : List EntryCode) (memory : List F) (work : ℕ) (output : List ℕ) (verdict : Verdict) (p : ℕ) (r : Result (Unit {0}) Refusal) → Clears (map entry_of entries) p r (map entry_of left)
+      → Does K value (state entries memory work output verdict) (called p) (outcome_by (λ _. Done) r) (state left memory work output verdict)

@@ -8,19 +8,15 @@ ghost use Rattle.shelf.specs.Views.{entry_of, state};
 ghost use Rattle.shelf.specs.Checking.{Reads, Pairs, Checked, Found, FoundBoth, Room};
 
 use crate::directory::Directory;
+use crate::memory::{SHELF, WORK};
 use crate::place::Place;
 use book::refusal::Refusal;
 use field::Field;
 use rows::table::TableRef;
 use walk::pairs::Pair;
 
-/// How many elements of shelf memory a call asks for: eight places of 1,568.
-pub const SHELF: usize = 12544;
-
-/// How many elements of work memory a call asks for.
-pub const WORK: usize = 8192;
-
 /// Whether shelf memory and work memory have the elements that a call asks for.
+// A fact, not a type that lends both: calls read the one while they write the other, and promise of each what it holds.
 pub fn room(shelf: usize, work: usize) -> Result<(), Refusal>
     ensures room_or_refused { MatchResult result (λ _. (12544 ≤ shelf) × (8192 ≤ work)) (λ f. ((f ≡ MemoryShort) × (shelf < 12544)) ⊎ ((f ≡ WorkShort) × (12544 ≤ shelf) × (work < 8192))) }
 {
@@ -43,10 +39,8 @@ impl Directory {
         requires shelf_whole { 12544 ≤ length shelf.now }
         ensures found_or_refused { MatchResult result (λ t. Found (map entry_of self.now.entries) shelf.now place.number t) (λ f. (f ≡ PlaceEmpty) × (at_place empty (map entry_of self.now.entries) place.number ≡ empty)) }
     {
-        match self.shape_at(place) {
-            None => Err(Refusal::PlaceEmpty),
-            Some(shape) => Ok(TableRef::at(shelf, place.begins(), shape)),
-        }
+        let shape = self.shape_at(place).ok_or(Refusal::PlaceEmpty)?;
+        Ok(TableRef::at(shelf, place.begins(), shape))
     }
 
     /// The checks of a call that reads one table and names one place more, which is told with the table.

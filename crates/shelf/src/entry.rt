@@ -4,6 +4,7 @@ ghost use Rattle.std.specs.Prelude.{◌≡◌, Some};
 use rows::table::Shape;
 
 /// Empty, or the shape of the table at the place.
+// Not an `Option` itself: the directory's form is the product's, an array of eight entry structs.
 #[derive(Clone, Copy)]
 pub struct Entry {
     shape: Option<Shape>,

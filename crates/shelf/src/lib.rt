@@ -7,6 +7,7 @@ mod clearing;
 pub mod directory;
 pub mod entry;
 mod making;
+pub mod memory;
 mod performing;
 mod place;
 mod reading;

@@ -81,9 +81,7 @@ impl Directory {
         ensures does { (out : List ℕ) (v : Verdict) → Does F.field F.value (state self.old.entries shelf.old (length work.old) out v) (scale place code to) (outcome_by (λ _. Done) result) (state self.new.entries shelf.new (length work.new) out v) }
     {
         let (table, to) = self.one_table(shelf, work, place, to)?;
-        let Some(factor) = F::from_code(code) else {
-            return Err(Refusal::CodeOutside);
-        };
+        let factor = F::from_code(code).ok_or(Refusal::CodeOutside)?;
         let shape = table.shape();
         let scaled = &mut work[0..shape.size()];
         adjusting::scale(table, factor, scaled);
@@ -103,9 +101,8 @@ impl Directory {
         ensures does { (out : List ℕ) (v : Verdict) → Does F.field F.value (state self.old.entries shelf.old (length work.old) out v) (after place letter to) (outcome_by (λ _. Done) result) (state self.new.entries shelf.new (length work.new) out v) }
     {
         let (table, to) = self.one_table(shelf, work, place, to)?;
-        let Some(letter) = table.letter(letter) else {
-            return Err(Refusal::LetterOutside { position: 1 });
-        };
+        let outside = Refusal::LetterOutside { position: 1 };
+        let letter = table.letter(letter).ok_or(outside)?;
         let shape = table.shape();
         let following = &mut work[0..shape.size()];
         adjusting::after(table, letter, following);

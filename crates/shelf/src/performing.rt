@@ -97,6 +97,7 @@ impl Directory {
         uses_follow_the_book(F::zero());
         let count = requests.len().min(outcomes.len());
         let asked = &requests[..count];
+        // By index: of elements written through zip with iter_mut nothing is known after the loop.
         for (i, request) in asked.iter().enumerate() {
             outcomes[i] = self.take_up(shelf, work, output, verdict, request);
         }

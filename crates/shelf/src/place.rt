@@ -3,6 +3,7 @@ ghost use Rattle.std.specs.Prelude.{◌≡◌, ◌-◌, ◌<◌, MatchResult};
 ghost use Rattle.book.specs.Shelves.{Place as IsPlace, begins};
 ghost use Rattle.book.specs.declared.refusal.Refusal.TheVariants.{PlaceOutside};
 
+use crate::memory::TABLE;
 use book::refusal::Refusal;
 
 /// A place, one of 1 to 8.
@@ -38,6 +39,6 @@ impl Place {
     pub(crate) fn begins(self) -> usize
         ensures told { result ≡ begins self.number }
     {
-        (self.number - 1) * 1568
+        self.index() * TABLE
     }
 }

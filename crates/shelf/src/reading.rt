@@ -5,8 +5,8 @@ ghost use Rattle.book.specs.Doing.{Does};
 ghost use Rattle.book.specs.declared.outcome.Answer.TheVariants.{Code, Told, Count};
 ghost use Rattle.shelf.specs.Views.{state, outcome_by, verdict_on};
 
-use crate::checks::SHELF;
 use crate::directory::Directory;
+use crate::memory::SHELF;
 use crate::place::Place;
 use book::refusal::Refusal;
 use book::verdict::{Kind, Verdict};

@@ -1,4 +1,5 @@
 //! What holds of the calls over every lawful field, held by functions that do nothing else.
+ghost use Rattle.book.specs.Calls.{clear};
 ghost use Rattle.shelf.specs.Clearing.{ClearsAsCalled};
 
 use field::Field;
@@ -6,7 +7,7 @@ use field::Field;
 /// What clear does with the entries, which is all that it is handed, is what the call clear does on a shelf over any
 /// field.
 pub fn clear_does_the_call<F: Field>(x: F) -> F
-    ensures clears_as_called { ClearsAsCalled F.field F.value }
+    ensures clears_as_called { ClearsAsCalled F.field F.value (λ p. clear p) }
 {
     x
 }

@@ -1,29 +1,33 @@
 use Rattle.std.proofs.Common.{◌≤◌, length, sym, refl, ap, ap₂, subst, subst₂, rules}
+use Rattle.std.proofs.lemmas.Option.{MatchOption-at_some}
 use Rattle.series.specs.Operations.{after_table}
 use Rattle.rows.specs.Seen.{table_of}
 use Rattle.book.specs.Calls.{after}
 use Rattle.book.specs.Shelves.{letters_of, table}
+use Rattle.book.specs.Refusing.{Refuses}
+use Rattle.book.specs.declared.outcome.Answer.TheVariants.{Done}
 use Rattle.shelf.specs.Views.{shelf_of, state}
 use Rattle.shelf.proofs.Gating.{makes_of_one}
-use Rattle.shelf.proofs.Made.{table_found, made_held}
+use Rattle.shelf.proofs.Made.{was_none, table_found, made_held, refused}
 use Rattle.shelf.proofs.Late.{after_accepts, after_refuses}
 use Rattle.shelf.proofs.directory.Directory.after.Goals as goal
 
-pub returns-in_default : goal.returns-in_default
-returns-in_default g c =
+pub returns-in_err-letter : goal.returns-in_err-letter
+returns-in_err-letter g c =
     let K = g.F.Field.field in
     let v = g.F.Field.value in
     let es = c.args.self.now.entries in
     let mem = c.args.shelf.now in
     let t = c.in_ok-table.table in
     let e = ap letters_of c.in_ok-table.ensures.found.0.told in
+    let a = after c.args.place c.args.letter c.args.to in
+    let h = was_none c.letter.result _ _ _ c.in_err-letter.ensures.value c.letter.ensures.one_of_the_letters in
     record {
-      does = λ out w. (
-        after_refuses K (state es mem (length c.args.work.now) out w) c.args.place c.args.letter c.args.to
-            (c.in_ok-table.ensures.checked (after c.args.place c.args.letter c.args.to) out w (makes_of_one (after c.args.place c.args.letter c.args.to) c.args.place c.args.to refl refl refl))
-            (λ l. c.in_default.ensures.one_of_the_letters (l.0, subst (λ k. c.args.letter ≤ k) e l.1)),
-        refl,
-      );
+      does = λ out w.
+          let s = state es mem (length c.args.work.now) out w in
+          refused K v s _ a (λ _. Done) c.from_residual-in_err-letter.result c.from_residual-in_err-letter.ensures.1
+          (subst (Refuses K s a) (sym h.0) (after_refuses K s c.args.place c.args.letter c.args.to (c.in_ok-table.ensures.checked a out w (makes_of_one a c.args.place c.args.to refl refl refl)) (λ l. h.1 (l.0, subst (λ k. c.args.letter ≤ k) e l.1))))
+          refl;
     }
 
 pub returns : goal.returns
@@ -34,8 +38,8 @@ returns g c =
     let mem = c.args.shelf.now in
     let t = c.in_ok-table.table in
     let e = ap letters_of c.in_ok-table.ensures.found.0.told in
-    let b = c.in-Some.letter in
-    let h = c.in-Some.ensures.one_of_the_letters in
+    let b = c.in_ok-letter.letter in
+    let h = MatchOption-at_some _ _ _ c.in_ok-letter.ensures.ok_part c.letter.ensures.one_of_the_letters in
     record {
       does = λ out w. (
         after_accepts K (state es mem (length c.args.work.now) out w) c.args.place c.args.letter c.args.to
