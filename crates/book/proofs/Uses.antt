@@ -1,13 +1,12 @@
 -- A use, call by call. Assumes nothing.
 use Rattle.std.proofs.Common.{◌≡◌, ℕ, zero, suc, ◌+◌, ◌<◌, List, [], ◌∷◌, ◌++◌, map, length, get_or, replicate, sym, refl, ap, ◌∙◌, subst, subst₂, arith, length-append}
 use native.Mathlib.Decide.{dec_lt}
-use Rattle.std.proofs.lemmas.List.{map-append, take_all, take-append-le, take_at, get_or_append_left, get_or_at, get_or-replicate, get_or_past, length-replicate}
+use Rattle.std.proofs.lemmas.List.{map-append, get_or-replicate, get_or_past, length-replicate}
 use Rattle.text.specs.Facts.{ToldApart}
 use Rattle.field.specs.FiniteField.{FiniteField}
 use Rattle.book.specs.Shelves.{empty, Shelf, State, Opened, at_place, begins}
 use Rattle.book.specs.Calls.{Call}
-use Rattle.book.specs.Doing.{Does}
-use Rattle.book.specs.Using.{lending, CallAt, Use, none, next, Page, blank, Book}
+use Rattle.book.specs.Using.{lending, Use, none, next, Page, blank, Book}
 use Rattle.book.specs.Running as run
 use Rattle.book.specs.Running.{given, call_in, Run}
 use Rattle.book.specs.Law.{Changes}
