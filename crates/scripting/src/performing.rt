@@ -154,6 +154,7 @@ impl OverField for Section<'_> {
 }
 
 /// Performs a script, and gives what it shows.
+// How outcomes are worded is not stated; stored scripts test it.
 pub fn perform(heap: Global, script: &Script) -> Result<Vec<u8>, AllocError> {
     let lines = script.lines.as_slice();
     let given = Given {
@@ -230,6 +231,7 @@ pub fn run(heap: Global, script: &Script) -> Result<Vec<u8>, Failure>
 }
 
 /// Reads and performs a script that names no file.
+// As for `read` and `perform`: what they leave open is tested.
 pub fn run_script(heap: Global, script: &[u8]) -> Result<Vec<u8>, Failure> {
     let script = read(heap, script)?;
     run(heap, &script)

@@ -101,6 +101,7 @@ fn belonging(said: &Result<Option<Said<'_>>, Reason>, rest: &[u8]) -> usize
 }
 
 /// Reads a script.
+// Which text a name stands for, and how lines are counted, is not stated; stored scripts test it.
 pub fn read(heap: Global, script: &[u8]) -> Result<Script, AllocError> {
     let mut lines = Vec::new(heap);
     let mut texts = BTreeMap::new(heap);

@@ -107,7 +107,7 @@ fn read(rt: &HostRuntime, name: &str) -> anyhow::Result<Vec<u8>>
 }
 
 // Reads both texts, and writes the line; a text that is refused is told.
-fn work(rt: &HostRuntime, field: Offered, files: &[String]) -> anyhow::Result<()> {
+fn work<'a>(rt: &'a HostRuntime, field: Offered, files: &'a [String]) -> anyhow::Result<()> {
     let names = (name_or(files, 0, "first"), name_or(files, 1, "second"));
     let first = read(rt, names.0)?;
     let second = read(rt, names.1)?;
