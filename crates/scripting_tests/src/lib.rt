@@ -63,14 +63,15 @@ mod tests {
         let told = told(rt.alloc(), "clear 1\ntext a 1\nbc\njump\n")?;
         let want =
             b"script: line 2: a newline is due after the text\nscript: line 4: the first word is no call\n";
-        assert_eq!(rt; told.as_slice(), want);
+        assert_eq!(rt; told.as_slice(), want.as_slice());
         Ok(())
     }
 
     #[test]
     fn performs_a_script_without_mistakes(rt: HostRuntime) -> Result<(), Failure> {
         let shown = run_script(rt.alloc(), b"clear 1\n# nothing more")?;
-        assert_eq!(rt; shown.as_slice(), b"1 clear: refused 4, a place is empty\n");
+        let want = b"1 clear: refused 4, a place is empty\n";
+        assert_eq!(rt; shown.as_slice(), want.as_slice());
         Ok(())
     }
 }
