@@ -1,5 +1,5 @@
 //! Tables in lent memory: their shape, and a table seen whole and by its parts.
-ghost use Rattle.std.specs.Prelude.{◌≡◌, ◌+◌, ◌*◌, ◌<◌, ◌≤◌, length, slice_range, MatchOption, ⊤};
+ghost use Rattle.std.specs.Prelude.{◌≡◌, ◌+◌, ◌<◌, ◌≤◌, length, slice_range, MatchOption, ⊤};
 ghost use Rattle.rows.specs.Layout.{table_size};
 
 use field::Field;
