@@ -1,5 +1,5 @@
 //! A table written part by part: its start row, the rows of its matrices, and its end column.
-ghost use Rattle.std.specs.Prelude.{◌≡◌, ◌+◌, ◌*◌, length};
+ghost use Rattle.std.specs.Prelude.{◌≡◌, ◌*◌, length};
 ghost use Rattle.rows.specs.Layout.{table_size, end_offset};
 ghost use Rattle.operations.specs.Rows.{TakesPart, WritesPart, TakesRows, WritesRows};
 
