@@ -97,25 +97,18 @@ fn one_text(random: &mut Random) -> Vec<Row> {
     rows
 }
 
-/// Reading and writing a text, and the same less what the verified library takes to clear the memory that it brings.
-fn rewriting(random: &mut Random) -> [Vec<Row>; 2] {
-    let name = "reading and writing";
-    let row = |states, letters, bytes: usize, times| Row { name, states, letters, note: bytes.to_string(), times };
-    let texts: Vec<(usize, usize, Vec<u8>)> = sizes().map(|(n, k)| (n, k, text::<Fermat>(random, n, k))).collect();
-    texts.iter().for_each(|(_, _, text)| agree_on_rewriting(text));
-    let rows: Vec<Row> = texts.iter().map(|(n, k, text)| row(*n, *k, text.len(), rewrite_times(text))).collect();
-    let cleared = rewrite_times(b"")[0];
-    let less = |row_: &Row| {
-        let [verified, cpp, rust] = row_.times;
-        row(row_.states, row_.letters, row_.note.parse().unwrap_or(0), [verified - cleared, cpp, rust])
+/// Reading and writing a text.
+fn rewriting(random: &mut Random) -> Vec<Row> {
+    let one = |(states, letters)| {
+        let text = text::<Fermat>(random, states, letters);
+        agree_on_rewriting(&text);
+        Row { name: "reading and writing", states, letters, note: text.len().to_string(), times: rewrite_times(&text) }
     };
-    let less: Vec<Row> = rows.iter().map(less).collect();
+    let rows: Vec<Row> = sizes().map(one).collect();
     head("reading and writing a text over GF(65537)", "bytes");
     rows.iter().for_each(Row::print);
-    head(&format!("the same, less the {cleared:.1} µs that an empty text takes the verified library"), "bytes");
-    less.iter().for_each(Row::print);
-    grow(&less);
-    [rows, less]
+    grow(&rows);
+    rows
 }
 
 /// Prints how times grow from size to size, of rows in all sizes.
@@ -158,12 +151,11 @@ fn main() {
     let random = &mut Random::new(1);
     let one = one_text(random);
     let two = comparisons::<Fermat>(random, "GF(65537)");
-    let [rewritten, less] = rewriting(random);
+    let rewritten = rewriting(random);
     let over_bytes = comparisons::<Bytes>(random, "GF(256)");
     println!("\n### Aims\n");
     aim("report on one text over GF(65537)", 1.0, &one);
     aim("report on two tables over GF(65537)", 1.0, &two);
     aim("report on two tables over GF(256)", 1.0, &over_bytes);
-    aim("reading and writing, with memory of its own", 1.2, &rewritten);
-    aim("reading and writing, less clearing that memory", 1.2, &less);
+    aim("reading and writing a text", 1.2, &rewritten);
 }

@@ -2,31 +2,30 @@
 //! over GF(256).
 #![tactic(auto)]
 
-ghost use Rattle.std.specs.Prelude.{◌≤◌, length, MatchResult};
+ghost use Rattle.std.specs.Prelude.{◌≤◌, length};
 ghost use Rattle.residue.specs.Delivered.{fermat};
 ghost use Rattle.byte.specs.Bytes.{bytes};
 ghost use Rattle.report.specs.Reports.{Reports};
 ghost use Rattle.bench_c.specs.Rewriting.{Rewrites};
 
-use book::refusal::Refusal;
 use field::Field;
 use residue::Fermat;
-use shelf::directory::Directory;
+use rows::table::TableRef;
+use text::table::read_table;
+use writer::{text_size, write_table};
 
-// Loads the text to the first place of a shelf, and writes the table there to the front of the output.
-fn load_and_write<F: Field>(
-    shelf: &mut [F],
-    work: &mut [F],
-    text: &[u8],
-    out: &mut [u8],
-) -> Result<usize, Refusal>
-    requires shelf_whole { 12544 ≤ length shelf.old }
-    requires work_whole { 8192 ≤ length work.old }
-    ensures rewrites { MatchResult result (λ n. Rewrites F.field text.now out.old n out.new) (λ _. Rewrites F.field text.now out.old 0 out.new) }
+// Reads the text into memory, and writes the table there to the front of the output.
+fn read_and_write<F: Field>(memory: &mut [F], text: &[u8], out: &mut [u8]) -> usize
+    requires room { 1568 ≤ length memory.old }
+    ensures rewrites { Rewrites F.field text.now out.old result out.new }
 {
-    let mut directory = Directory::open();
-    directory.load(shelf, work, text, 1)?;
-    directory.write(shelf, 1, out)
+    let Ok(shape) = read_table(text, memory) else {
+        return 0;
+    };
+    if out.len() < text_size(shape) {
+        return 0;
+    }
+    write_table(TableRef::new(memory, shape), out)
 }
 
 /// Reads the text of a table over GF(65537) and writes it to the front of the output: how many bytes it has, or 0 where
@@ -36,9 +35,8 @@ pub extern "C" fn rewrite(text: &[u8], out: &mut [u8]) -> usize
     ensures rewrites { Rewrites fermat text.now out.old result out.new }
 {
     let zero = Fermat::zero();
-    let mut shelf = [zero; 12544];
-    let mut work = [zero; 8192];
-    load_and_write(&mut shelf, &mut work, text, out).unwrap_or(0)
+    let mut memory = [zero; 1568];
+    read_and_write(&mut memory, text, out)
 }
 
 /// `report` over GF(256).
