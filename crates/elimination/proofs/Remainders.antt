@@ -1,13 +1,12 @@
 -- Rows in echelon form and what they leave of a row, where rows are said in another way. Assumes nothing.
-use Rattle.std.proofs.Common.{◌≡◌, ℕ, suc, ◌+◌, ◌*◌, ◌<◌, ◌≤◌, ◌≢◌, List, ◌++◌, length, sym, refl, ap, ◌∙◌, arith}
+use Rattle.std.proofs.Common.{◌≡◌, ℕ, suc, ◌+◌, ◌*◌, ◌<◌, ◌≢◌, List, ◌++◌, length, sym, refl, ap, ◌∙◌, arith}
 use Rattle.std.proofs.lemmas.Nat.{mul-add-lt}
 use Rattle.field.specs.FiniteField.{FiniteField}
 use Rattle.series.specs.EliminationProgress.{Echelon}
 use Rattle.series.specs.Tables.{Agree}
 use Rattle.series.proofs.SpanLaws.{span_same, span_span, span_member}
 use Rattle.series.proofs.Echelons.{echelon_few, echelon_more}
-use Rattle.rows.specs.Memory.{at, row_at, square_at, Copied}
-use Rattle.rows.proofs.Memory.{frame_below, copied_written}
+use Rattle.rows.specs.Memory.{at, square_at}
 use Rattle.rows.proofs.Splits.{at_front}
 use Rattle.elimination.specs.Elimination.{Remainder, NothingLeft, NewRow}
 use Rattle.elimination.proofs.Updates.{updated, updated_here, updated_other}

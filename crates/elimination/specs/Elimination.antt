@@ -1,10 +1,22 @@
--- What rows in echelon form leave of a row. Assumes nothing.
-use Rattle.std.specs.Prelude.{◌≡◌, ℕ, ◌<◌, ◌≢◌}
+-- Rows in echelon form, and what they leave of a row. Assumes nothing.
+use Rattle.std.specs.Prelude.{◌≡◌, ℕ, ◌<◌, ◌≢◌, List, length, slice_index}
 use Rattle.field.specs.FiniteField.{FiniteField}
+use Rattle.series.specs.EliminationProgress.{Echelon}
 use Rattle.series.specs.Families.{Of}
 use Rattle.series.specs.Spans.{Span}
 use Rattle.series.specs.Tables.{Agree}
 use Rattle.rows.specs.Arithmetic.{multiple}
+use Rattle.rows.specs.Memory.{square_at}
+
+-- rows of w entries, one behind the other in xs, as many as there are pivots
+module _ {F V : Type 0} (K : FiniteField V) (value : F → V) (w : ℕ) (pivots : List ℕ) (xs : List F) where
+  -- each has its pivot among its first d entries, where it is not zero and those behind it are
+  abbrev pub RowsInEchelon : ℕ → Type 0
+  RowsInEchelon d = Echelon K (λ i. i < d) (length pivots) (square_at K value xs 0 w) (λ b. slice_index pivots b)
+
+  -- each is one at its pivot
+  abbrev pub OnesAtPivots : Type 0
+  OnesAtPivots = (b : ℕ) → b < length pivots → square_at K value xs 0 w b (slice_index pivots b) ≡ K.one
 
 module _ {V : Type 0} (K : FiniteField V) where
   -- y is the row x of d entries less a combination of the first n rows of q, and is zero at their pivots p

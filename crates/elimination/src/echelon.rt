@@ -1,8 +1,7 @@
 //! Rows in echelon form, one behind the other in a slice: what they leave of a row, and one row more behind them.
-ghost use Rattle.std.specs.Prelude.{◌≡◌, ℕ, ◌+◌, ◌*◌, ◌<◌, ◌≤◌, length, MatchOption, slice_index};
-ghost use Rattle.series.specs.EliminationProgress.{Echelon};
+ghost use Rattle.std.specs.Prelude.{◌+◌, ◌*◌, ◌≤◌, length, MatchOption, slice_index};
 ghost use Rattle.rows.specs.Memory.{at, row_at, square_at, Frame};
-ghost use Rattle.elimination.specs.Elimination.{Remainder, NothingLeft, NewRow};
+ghost use Rattle.elimination.specs.Elimination.{RowsInEchelon, OnesAtPivots, Remainder, NothingLeft, NewRow};
 
 use field::Field;
 use rows::row::{first_nonzero, scale_row, subtract_multiple};
@@ -10,8 +9,8 @@ use rows::row::{first_nonzero, scale_row, subtract_multiple};
 /// Takes from the row what the rows of `basis`, as many as there are pivots, take of it: it is zero at their pivots then.
 pub fn reduce_row<F: Field>(row: &mut [F], basis: &[F], pivots: &[usize])
     requires rows_within { length pivots.now * length row.old ≤ length basis.now }
-    requires echelon_form { Echelon F.field (λ i. i < length row.old) (length pivots.now) (square_at F.field F.value basis.now 0 (length row.old)) (λ b. slice_index pivots.now b) }
-    requires ones_at_pivots { (b : ℕ) → b < length pivots.now → square_at F.field F.value basis.now 0 (length row.old) b (slice_index pivots.now b) ≡ F.field.one }
+    requires echelon_form { RowsInEchelon F.field F.value (length row.old) pivots.now basis.now (length row.old) }
+    requires ones_at_pivots { OnesAtPivots F.field F.value (length row.old) pivots.now basis.now }
     ensures remainder { Remainder F.field (length row.old) (length pivots.now) (square_at F.field F.value basis.now 0 (length row.old)) (λ b. slice_index pivots.now b) (at F.field F.value row.old) (at F.field F.value row.new) }
 {
     let n = row.len();
@@ -23,10 +22,11 @@ pub fn reduce_row<F: Field>(row: &mut [F], basis: &[F], pivots: &[usize])
 
 /// Copies the row to behind the rows of `echelon`, as many as there are pivots, and reduces it there. If something is left
 /// of it, makes it one at a pivot, which is answered: the rows with the new one are in echelon form again.
+// Not one with leading's `track_row`, which reduces in place, seeks a pivot among the first entries, and notes the factor.
 pub fn keep_row<F: Field>(row: &[F], echelon: &mut [F], pivots: &[usize]) -> Option<usize>
     requires room { length pivots.now * length row.now + length row.now ≤ length echelon.old }
-    requires echelon_form { Echelon F.field (λ i. i < length row.now) (length pivots.now) (square_at F.field F.value echelon.old 0 (length row.now)) (λ b. slice_index pivots.now b) }
-    requires ones_at_pivots { (b : ℕ) → b < length pivots.now → square_at F.field F.value echelon.old 0 (length row.now) b (slice_index pivots.now b) ≡ F.field.one }
+    requires echelon_form { RowsInEchelon F.field F.value (length row.now) pivots.now echelon.old (length row.now) }
+    requires ones_at_pivots { OnesAtPivots F.field F.value (length row.now) pivots.now echelon.old }
     ensures nothing_left_or_new_row { MatchOption result
         (NothingLeft F.field (length row.now) (length pivots.now) (square_at F.field F.value echelon.old 0 (length row.now)) (λ b. slice_index pivots.now b) (at F.field F.value row.now))
         (λ p. NewRow F.field (length row.now) (length pivots.now) (square_at F.field F.value echelon.old 0 (length row.now)) (λ b. slice_index pivots.now b) (at F.field F.value row.now) p (row_at F.field F.value echelon.new (length pivots.now * length row.now))) }

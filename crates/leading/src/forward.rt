@@ -10,10 +10,10 @@ ghost use Rattle.leading.specs.Tracking.{Bare};
 ghost use Rattle.leading.specs.Forward.{viewed, Trying, Walked, Finished};
 
 use crate::tracking::{TRACKED, track_row};
-use crate::vectors::{clear_row, negate_row, project_row, unit_row};
+use crate::vectors::{negate_row, project_row, unit_row};
 use crate::view::View;
 use field::Field;
-use rows::row::row_times_matrix;
+use rows::row::{clear_row, row_times_matrix};
 use spanning::{Pivots, WIDTH};
 
 /// How many elements the coefficients of a leading word take: 16 for each letter, from letter 0 on, which is none.

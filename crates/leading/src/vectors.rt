@@ -32,16 +32,6 @@ pub fn negate_row<F: Field>(row: &[F], to: &mut [F])
     }
 }
 
-/// Fills the row with zero.
-pub fn clear_row<F: Field>(to: &mut [F])
-    ensures zeros_written { RowOf F.field F.value (length to.old) (λ _. F.field.zero) to.new }
-{
-    let zero = F::zero();
-    for x in to.iter_mut() {
-        *x = zero;
-    }
-}
-
 /// Writes to `to` the row that is one at `place`, if it is that long, and zero elsewhere.
 pub fn unit_row<F: Field>(to: &mut [F], place: usize)
     ensures unit_written { RowOf F.field F.value (length to.old) (unit F.field place) to.new }

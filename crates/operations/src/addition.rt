@@ -8,6 +8,7 @@ ghost use Rattle.rows.specs.Tables.{Weighs};
 
 use crate::parts::write_table;
 use field::Field;
+use rows::row::clear_row;
 use rows::table::{Shape, TableRef};
 
 // Two rows side by side.
@@ -18,16 +19,6 @@ fn write_beside<F: Field>(left: &[F], right: &[F], to: &mut [F])
     let (front, back) = to.split_at_mut(left.len());
     front.copy_from_slice(left);
     back.copy_from_slice(right);
-}
-
-// Not `fill`: it asks that cloning the element cannot fail and gives it again, which is not known of every field.
-fn write_zeros<F: Field>(to: &mut [F])
-    ensures zeros { RowOf F.field F.value (length to.old) (λ _. F.field.zero) to.new }
-{
-    let zero = F::zero();
-    for x in to.iter_mut() {
-        *x = zero;
-    }
 }
 
 // A row of a letter's matrix of the sum: a row of one of the two tables, with zeros beside it.
@@ -47,9 +38,9 @@ fn write_sum_row<F: Field>(
     let (front, back) = to.split_at_mut(n);
     if row < n {
         front.copy_from_slice(left.matrix_row(letter, row));
-        write_zeros(back);
+        clear_row(back);
     } else {
-        write_zeros(front);
+        clear_row(front);
         back.copy_from_slice(right.matrix_row(letter, row - n));
     }
 }

@@ -1,4 +1,5 @@
-//! Tests of the tables made of tables: the weights of five words under each, over several fields.
+//! Tests of the tables made of tables, which lie in larger memories: the weights of five words under each, over several
+//! fields, and that the elements around them stay.
 #![tactic(auto)]
 
 ghost use Rattle.std.specs.Prelude.{◌≡◌, ◌+◌, ◌≤◌, length};
@@ -42,6 +43,29 @@ mod tests {
         Ok(())
     }
 
+    // Fills memory with ones, to see later what was written.
+    fn mark<F: Field>(memory: &mut [F]) {
+        let one = F::one();
+        for x in memory.iter_mut() {
+            *x = one;
+        }
+    }
+
+    // Checks that all of a part is marked still.
+    fn check_marked<F: Field>(rt: &impl Abort, part: &[F]) -> Result<(), Fail> {
+        assert!(rt; part.iter().all(|x| x.code() == 1));
+        Ok(())
+    }
+
+    // Checks elements by their codes.
+    fn check_codes<F: Field>(rt: &impl Abort, part: &[F], codes: &[u64]) -> Result<(), Fail> {
+        assert_eq!(rt; part.len(), codes.len());
+        for (x, code) in part.iter().zip(codes) {
+            assert_eq!(rt; x.code(), *code);
+        }
+        Ok(())
+    }
+
     // Checks the weight of a word.
     fn check_weight<F: Field>(
         rt: &impl Abort,
@@ -77,7 +101,7 @@ mod tests {
         check_weight(rt, table, &[2, 1, 1], scratch, expected[4])
     }
 
-    // The table that an operation makes within work memory.
+    // The table that an operation makes within work memory, and the elements before and behind it.
     fn check_made<F: Field, M: FnOnce(&mut [F])>(
         rt: &impl Abort,
         shape: Shape,
@@ -91,9 +115,11 @@ mod tests {
     {
         let size = shape.size();
         assert!(rt; 10 + size <= work.len());
-        let to = &mut work[10..10 + size];
-        make(to);
-        check_weights(rt, TableRef::new(to, shape), scratch, expected)
+        mark(work);
+        make(&mut work[10..10 + size]);
+        check_marked(rt, &work[..10])?;
+        check_marked(rt, &work[10 + size..])?;
+        check_weights(rt, TableRef::at(work, 10, shape), scratch, expected)
     }
 
     // All operations on two tables, with the expected weights in the order of the calls.
@@ -153,25 +179,55 @@ mod tests {
         )
     }
 
+    // The table turned, and copied over the one that was read.
+    fn check_turned_in_place<F: Field>(
+        rt: &impl Abort,
+        shelf: &mut [F],
+        work: &mut [F],
+        scratch: &mut [F],
+        expected: [u64; 5],
+    ) -> Result<(), Fail>
+        requires two_rows_fit { 4 ≤ length scratch.old }
+    {
+        assert!(rt; shelf.len() == 30 && work.len() == 64);
+        let shape = Shape::new(2, 2);
+        let turned = &mut work[10..22];
+        turn(TableRef::at(shelf, 12, shape), turned);
+        shelf[12..24].copy_from_slice(turned);
+        check_weights(rt, TableRef::at(shelf, 12, shape), scratch, expected)
+    }
+
+    // Checks that around the first table the second one and the marks stay.
+    fn check_around<F: Field>(rt: &impl Abort, shelf: &[F], codes: &[u64]) -> Result<(), Fail> {
+        assert!(rt; shelf.len() == 30);
+        check_marked(rt, &shelf[..2])?;
+        check_codes(rt, &shelf[2..6], codes)?;
+        check_marked(rt, &shelf[6..12])?;
+        check_marked(rt, &shelf[24..])
+    }
+
+    // The second table lies at 2 and the first at 12, among marked elements.
     fn check_case<F: Field>(
         rt: &impl Abort,
-        first: &mut [F],
-        second: &mut [F],
+        shelf: &mut [F],
         work: &mut [F],
         scratch: &mut [F],
         case: usize,
         factor: u64,
         expected: &[[u64; 5]; 5],
     ) -> Result<(), Fail> {
-        assert!(rt; case < 3 && first.len() == 12 && second.len() == 4 && scratch.len() == 8);
-        put(rt, first, &FIRST[case])?;
-        put(rt, second, &SECOND[case])?;
+        assert!(rt; case < 3 && shelf.len() == 30 && scratch.len() == 8);
+        mark(shelf);
+        put(rt, &mut shelf[2..6], &SECOND[case])?;
+        put(rt, &mut shelf[12..24], &FIRST[case])?;
         let Some(factor) = F::from_code(factor) else {
             return Err(Fail::new("the factor is refused"));
         };
-        let left = TableRef::new(first, Shape::new(2, 2));
-        let right = TableRef::new(second, Shape::new(1, 2));
-        check_operations(rt, left, right, factor, work, scratch, expected)
+        let left = TableRef::at(shelf, 12, Shape::new(2, 2));
+        let right = TableRef::at(shelf, 2, Shape::new(1, 2));
+        check_operations(rt, left, right, factor, work, scratch, expected)?;
+        check_turned_in_place(rt, shelf, work, scratch, expected[4])?;
+        check_around(rt, shelf, &SECOND[case])
     }
 
     #[test]
@@ -186,8 +242,7 @@ mod tests {
         let zero = Bit::zero();
         check_case(
             &rt,
-            &mut [zero; 12],
-            &mut [zero; 4],
+            &mut [zero; 30],
             &mut [zero; 64],
             &mut [zero; 8],
             0,
@@ -208,8 +263,7 @@ mod tests {
         let zero = Byte::zero();
         check_case(
             &rt,
-            &mut [zero; 12],
-            &mut [zero; 4],
+            &mut [zero; 30],
             &mut [zero; 64],
             &mut [zero; 8],
             2,
@@ -231,8 +285,7 @@ mod tests {
         let zero = Fermat::zero();
         check_case(
             &rt,
-            &mut [zero; 12],
-            &mut [zero; 4],
+            &mut [zero; 30],
             &mut [zero; 64],
             &mut [zero; 8],
             1,
@@ -242,8 +295,7 @@ mod tests {
         let zero = Loose::<65537>::zero();
         check_case(
             &rt,
-            &mut [zero; 12],
-            &mut [zero; 4],
+            &mut [zero; 30],
             &mut [zero; 64],
             &mut [zero; 8],
             1,

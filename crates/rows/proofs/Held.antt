@@ -1,6 +1,6 @@
 -- Rows side by side, and tables that whole slices hold. Assumes nothing.
-use Rattle.std.proofs.Common.{◌≡◌, ℕ, ◌+◌, ◌-◌, ◌*◌, ◌<◌, ◌≤◌, List, ◌++◌, map, length, take, drop, get_or, sym, refl, ap, ◌∙◌, subst, arith}
-use Rattle.std.proofs.lemmas.List.{length-append, length-map, length-take, length-take-le, length-drop, map-append, get_or-take, get_or-append-add, get_or_append_left}
+use Rattle.std.proofs.Common.{◌≡◌, ℕ, ◌+◌, ◌-◌, ◌*◌, ◌<◌, ◌≤◌, List, ◌++◌, length, take, drop, get_or, sym, refl, ap, ◌∙◌, subst, arith}
+use Rattle.std.proofs.lemmas.List.{length-append, length-take, length-take-le, length-drop, get_or-take, get_or-append-add, get_or_append_left}
 use borrow.Rule.Slice.PartMut.{put_mid}
 use Rattle.std.proofs.lemmas.Nat.{mul-add-lt}
 use Rattle.field.specs.FiniteField.{FiniteField}
@@ -13,6 +13,7 @@ use Rattle.rows.specs.Layout.{table_size, table_at, matrix_offset, end_offset}
 use Rattle.rows.specs.Seen.{RowOf, HoldsTable}
 use Rattle.rows.proofs.Memory.{at_copied}
 use Rattle.rows.proofs.Slices.{length_part, at_part}
+use Rattle.rows.proofs.Splits.{at_front, at_back}
 use Rattle.rows.proofs.Layouts.{matrix_within}
 
 module _ {X : Type 0} where
@@ -28,15 +29,6 @@ module _ {X : Type 0} where
       ∙ get_or_append_left ys _ d j l
 
 module _ {F V : Type 0} (K : FiniteField V) (v : F → V) where
-  pub at_front : (xs ys : List F) (i : ℕ) → i < length xs → at K v (xs ++ ys) i ≡ at K v xs i
-  at_front xs ys i l = ap (λ zs. get_or zs i K.zero) (map-append v xs ys) ∙ get_or_append_left (map v xs) (map v ys) K.zero i (omega (arith, length-map xs v))
-
-  pub at_back : (xs ys : List F) (i : ℕ) → at K v (xs ++ ys) (length xs + i) ≡ at K v ys i
-  at_back xs ys i =
-      ap (λ zs. get_or zs (length xs + i) K.zero) (map-append v xs ys)
-      ∙ ap (λ n. get_or (map v xs ++ map v ys) (n + i) K.zero) (sym (length-map xs v))
-      ∙ get_or-append-add (map v xs) (map v ys) i K.zero
-
   pub row_copied : {n : ℕ} {x : ℕ → V} {xs ys : List F} → ys ≡ xs → RowOf K v n x xs → RowOf K v n x ys
   row_copied {n} {x} e r = subst (RowOf K v n x) (sym e) r
 
@@ -51,8 +43,8 @@ module _ {F V : Type 0} (K : FiniteField V) (v : F → V) where
   row_beside {n} {m} {x} {y} xs ys e f = record {
     len = length-append xs ys ∙ omega arith;
     same = both_parts n m (λ i. at K v (xs ++ ys) i ≡ beside n x y i)
-        (λ i l. at_front xs ys i (omega arith) ∙ e.same i l ∙ sym (beside_left n x y i l))
-        (λ i l. ap (λ j. at K v (xs ++ ys) (j + i)) (sym e.len) ∙ at_back xs ys i ∙ f.same i l ∙ sym (beside_right n x y i));
+        (λ i l. at_front K v xs ys i (omega arith) ∙ e.same i l ∙ sym (beside_left n x y i l))
+        (λ i l. at_back K v xs ys n i e.len ∙ f.same i l ∙ sym (beside_right n x y i));
   }
 
   -- a row whose elements stand in a longer slice
@@ -85,8 +77,8 @@ module _ {F V : Type 0} (K : FiniteField V) (v : F → V) where
       let size : length zs ≡ length xs - T.states = ap length rest ∙ length_part T.states (length xs) xs (omega (arith, made.len)) (omega arith) in
       let kept : (i : ℕ) → T.states ≤ i → i < length xs → at K v (ys ++ zs) i ≡ at K v xs i =
       λ i low l.
-      ap (at K v (ys ++ zs)) {x = i} {y = length ys + (i - T.states)} (omega (arith, first.len))
-      ∙ at_back ys zs (i - T.states)
+      ap (at K v (ys ++ zs)) {x = i} {y = T.states + (i - T.states)} (omega arith)
+      ∙ at_back K v ys zs T.states (i - T.states) first.len
       ∙ ap (λ l. at K v l (i - T.states)) rest
       ∙ at_part K v T.states (length xs) xs (i - T.states) (omega arith)
       ∙ ap (at K v xs) {x = T.states + (i - T.states)} {y = i} (omega arith) in
@@ -95,7 +87,7 @@ module _ {F V : Type 0} (K : FiniteField V) (v : F → V) where
         same = record {
           states = refl;
           letters = refl;
-          start = λ i l. at_front ys zs (0 + i) (omega (arith, first.len)) ∙ ap (at K v ys) {x = 0 + i} {y = i} (omega arith) ∙ first.same i l;
+          start = λ i l. at_front K v ys zs (0 + i) (omega (arith, first.len)) ∙ ap (at K v ys) {x = 0 + i} {y = i} (omega arith) ∙ first.same i l;
           step = λ a low high i h j l.
               kept (matrix_offset 0 T.states a + (i * T.states + j)) (omega arith)
               (omega (arith, made.len, matrix_within a T.letters (T.states * T.states) low high, mul-add-lt i T.states j T.states h l))

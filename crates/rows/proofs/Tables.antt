@@ -2,10 +2,10 @@
 use Rattle.std.proofs.Common.{ℕ, ◌+◌, ◌-◌, ◌*◌, ◌≤◌, List, length, refl, ap, ◌∙◌, arith}
 use Rattle.std.proofs.lemmas.Nat.{mul-add-lt}
 use Rattle.field.specs.FiniteField.{FiniteField}
-use Rattle.rows.specs.Memory.{at, Copied}
+use Rattle.rows.specs.Memory.{at}
 use Rattle.rows.specs.Layout.{table_size, table_at}
 use Rattle.rows.specs.Tables.{TableWritten}
-use Rattle.rows.proofs.Memory.{copied_written}
+use Rattle.rows.proofs.Memory.{Copied, copied_written}
 use Rattle.rows.proofs.Layouts.{matrix_within}
 
 module _ {F V : Type 0} (K : FiniteField V) (v : F → V) where

@@ -1,5 +1,5 @@
 -- What lies in a slice of elements, and what a function leaves of it. Assumes nothing.
-use Rattle.std.specs.Prelude.{◌≡◌, ℕ, ◌+◌, ◌*◌, ◌<◌, ◌≤◌, ◌⊎◌, List, map, length, slice_index_or}
+use Rattle.std.specs.Prelude.{◌≡◌, ℕ, ◌+◌, ◌*◌, ◌<◌, ◌≤◌, List, map, length, slice_index_or}
 use Rattle.field.specs.FiniteField.{FiniteField}
 use Rattle.series.specs.Tables.{Agree}
 
@@ -26,12 +26,3 @@ pub record Frame {X : Type 0} (a n : ℕ) (xs ys : List X) : Type 0 where
 pub record Written {F V : Type 0} (K : FiniteField V) (value : F → V) (a n : ℕ) (goal : ℕ → V) (xs ys : List F) : Type 0 where
   pub done : Agree n (row_at K value ys a) goal
   pub frame : Frame a n xs ys
-
--- the n elements from a on are now the very elements of src from b on, and every other is the very element it was
-pub record Copied {X : Type 0} (a n : ℕ) (src : List X) (b : ℕ) (xs ys : List X) : Type 0 where
-  pub done : (j : ℕ) (d : X) → j < n → slice_index_or ys (a + j) d ≡ slice_index_or src (b + j) d
-  pub frame : Frame a n xs ys
-
--- two blocks, of n elements from a on and of m elements from b on, share none
-abbrev pub Apart : ℕ → ℕ → ℕ → ℕ → Type 0
-Apart a n b m = (a + n ≤ b) ⊎ (b + m ≤ a)

@@ -31,6 +31,7 @@ pub fn row_times_matrix<F: Field>(row: &[F], matrix: &[F], to: &mut [F])
 }
 
 /// Writes to `to` the matrix of as many rows and columns times the column.
+// Not one with the above: it would take two strides, of which only (1, n) and (n, 1) are meant, and name neither product.
 pub fn matrix_times_column<F: Field>(matrix: &[F], column: &[F], to: &mut [F])
     requires square { length matrix.now ≡ length column.now * length column.now }
     requires as_long { length to.old ≡ length column.now }
@@ -61,15 +62,21 @@ pub fn scale_row<F: Field>(row: &mut [F], factor: F)
     }
 }
 
+/// Fills the row with zero.
+// Not `fill`: it asks that cloning the element cannot fail and gives it again, which is not known of every field.
+pub fn clear_row<F: Field>(to: &mut [F])
+    ensures zeros_written { RowOf F.field F.value (length to.old) (λ _. F.field.zero) to.new }
+{
+    let zero = F::zero();
+    for x in to.iter_mut() {
+        *x = zero;
+    }
+}
+
 /// The first column of the row that is not zero.
 pub fn first_nonzero<F: Field>(row: &[F]) -> Option<usize>
     ensures first_or_all_zero { MatchOption result (Agree (length row.now) (at F.field F.value row.now) (λ _. F.field.zero)) (λ p. FirstNonzero F.field (length row.now) (at F.field F.value row.now) p) }
 {
     let zero = F::zero();
-    for (j, x) in row.iter().enumerate() {
-        if !x.same(zero) {
-            return Some(j);
-        }
-    }
-    None
+    row.iter().position(|x| !x.same(zero))
 }

@@ -44,7 +44,8 @@ impl Shape {
         ensures is_table_size { result ≡ table_size self.states self.letters }
         ensures at_most_1568 { result ≤ 1568 }
     {
-        self.states + self.letters * (self.states * self.states) + self.states
+        let n = self.states;
+        n + self.letters * (n * n) + n
     }
 }
 
@@ -57,6 +58,7 @@ pub struct TableRef<'a, F> {
     ghost within: { base + table_size shape.states shape.letters ≤ length memory.now },
 }
 
+// By hand: neither is derived on a generic struct with a ghost field.
 impl<'a, F> Clone for TableRef<'a, F> {
     ghost is_clone = { λ t r. r ≡ t };
 
@@ -123,10 +125,7 @@ impl<'a, F: Field> TableRef<'a, F> {
         ensures one_of_the_letters { MatchOption result ((1 ≤ byte) × (byte ≤ self.entry.shape.letters) → ⊥) (λ a. (a ≡ byte) × (1 ≤ a) × (a ≤ self.entry.shape.letters)) }
     {
         let letter = usize::from(byte);
-        if letter < 1 || letter > self.shape.letters {
-            return None;
-        }
-        Some(letter)
+        (1..=self.shape.letters).contains(&letter).then_some(letter)
     }
 
     /// All its elements.
@@ -143,6 +142,8 @@ impl<'a, F: Field> TableRef<'a, F> {
         &self.memory[self.base..self.base + self.shape.states]
     }
 
+    /// The matrix of a letter, row by row.
+    // A letter is a plain number: a type for it would need a clause too, which says of how many letters it is one.
     pub fn matrix(self, letter: usize) -> &'a [F]
         requires letter_of_table { (1 ≤ letter) × (letter ≤ self.shape.letters) }
         ensures matrix_of_letter { SquareOf F.field F.value self.entry.shape.states ((table_of F.field F.value self.entry).step letter) result.now }

@@ -30,9 +30,7 @@ pub fn weigh<F: Field>(
     let next = &mut rest[0..n];
     row.copy_from_slice(table.start());
     for (i, a) in word.iter().enumerate() {
-        let Some(letter) = table.letter(*a) else {
-            return Err(LetterOutside { position: i + 1 });
-        };
+        let letter = table.letter(*a).ok_or(LetterOutside { position: i + 1 })?;
         row_times_matrix(row, table.matrix(letter), next);
         row.copy_from_slice(next);
     }

@@ -4,7 +4,8 @@ use Rattle.std.proofs.lemmas.List.{places}
 use borrow.Rule.Slice.PartMut.{put_mid}
 use Rattle.field.specs.FiniteField.{FiniteField}
 use Rattle.series.specs.Tables.{Table, SameTable}
-use Rattle.rows.specs.Memory.{Copied, Frame}
+use Rattle.rows.specs.Memory.{Frame}
+use Rattle.rows.proofs.Memory.{Copied}
 use Rattle.rows.specs.Layout.{table_size, table_at}
 use Rattle.rows.specs.Tables.{TableWritten}
 use Rattle.rows.proofs.Parts.{frame_part}

@@ -16,7 +16,7 @@ returns-then-row-n g c =
     record {
       row_of_sum_table =
           row_same K v
-          (row_beside K v c.copy_from_slice.new.self c.write_zeros.new.to (row_copied K v c.copy_from_slice.ensures.after c.matrix_row.ensures.row_of_matrix) (row_long K v c.write_zeros.ensures.zeros (omega arith)))
+          (row_beside K v c.copy_from_slice.new.self c.clear_row.new.to (row_copied K v c.copy_from_slice.ensures.after c.matrix_row.ensures.row_of_matrix) (row_long K v c.clear_row.ensures.zeros_written (omega arith)))
           (λ j l. sym (ap (λ f. f j) (beside_left n (λ i. beside n (S.step a i) (λ j. K.zero)) (λ i. beside n (λ j. K.zero) (T.step a i)) i (omega arith))));
     }
 
@@ -33,7 +33,7 @@ returns-else-row-n g c =
     record {
       row_of_sum_table =
           row_same K v
-          (row_beside K v c.write_zeros-else-row-n.new.to c.copy_from_slice-else-row-n.new.self (row_long K v c.write_zeros-else-row-n.ensures.zeros (omega arith)) (row_copied K v c.copy_from_slice-else-row-n.ensures.after (rw here at c.matrix_row-else-row-n.ensures.row_of_matrix)))
+          (row_beside K v c.clear_row-else-row-n.new.to c.copy_from_slice-else-row-n.new.self (row_long K v c.clear_row-else-row-n.ensures.zeros_written (omega arith)) (row_copied K v c.copy_from_slice-else-row-n.ensures.after (rw here at c.matrix_row-else-row-n.ensures.row_of_matrix)))
           (λ j l. sym (ap (λ r. beside n (λ i. beside n (S.step a i) (λ j. K.zero)) (λ i. beside n (λ j. K.zero) (T.step a i)) r j) whole
           ∙ ap (λ f. f j) (beside_right n (λ i. beside n (S.step a i) (λ j. K.zero)) (λ i. beside n (λ j. K.zero) (T.step a i)) i)));
     }

@@ -1,8 +1,12 @@
-use Rattle.std.proofs.Common.{sym, ◌∙◌, arith, below_more}
-use Rattle.rows.proofs.Memory.{at_read}
+use Rattle.std.proofs.Common.{◌≡◌, ◌≢◌, rules, tests}
+use Rattle.std.proofs.lemmas.Iterator.{IsFirst-from_position, YieldsList-from_slice}
+use Rattle.rows.proofs.Memory.{first_so}
 use Rattle.rows.proofs.row.first_nonzero.Goals as goal
 
-pub loop-j-preserved : goal.loop-j-preserved
-loop-j-preserved g c =
-    let read = at_read g.F.Field.field g.F.Field.value c.args.row.now c.loop-j.j c.index-row-j.result (omega arith) c.index-row-j.is in
-    below_more _ c.loop-j.j c.loop-j.invariant (sym read ∙ c.same.ensures.decides_equality.0 c.if-not-same.false ∙ c.zero-zero.ensures.is_zero)
+pub returns : goal.returns
+returns g c =
+    let K = g.F.Field.field in let v = g.F.Field.value in
+    record {
+      first_or_all_zero = first_so K v c.args.row.now c.position.result c.zero-zero.result
+          (IsFirst-from_position _ _ _ (λ x. v x ≢ K.zero) (λ x. v x ≡ K.zero) c.position.ensures.ran (YieldsList-from_slice c.args.row.now c.iter.ensures.rest) (λ x q k. search (rules, tests)) (λ x q k. search (rules, tests)));
+    }

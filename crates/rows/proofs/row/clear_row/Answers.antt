@@ -1,6 +1,6 @@
 use Rattle.std.proofs.Common.{arith}
 use Rattle.rows.proofs.Slices.{filled_more}
-use Rattle.leading.proofs.vectors.clear_row.Goals as goal
+use Rattle.rows.proofs.row.clear_row.Goals as goal
 
 pub loop-x-preserved : goal.loop-x-preserved
 loop-x-preserved g c = filled_more g.F.Field.field g.F.Field.value c.zero-zero.result c.loop-x.invariant (omega arith) c.zero-zero.ensures.is_zero
