@@ -1,7 +1,7 @@
 //! Elimination with tracked coefficients: which combination of the rows so far a row is.
-ghost use Rattle.std.specs.Prelude.{◌≡◌, ℕ, ◌*◌, ◌<◌, ◌≤◌, length, MatchOption, slice_index};
-ghost use Rattle.series.specs.EliminationProgress.{Echelon};
+ghost use Rattle.std.specs.Prelude.{◌≡◌, ◌*◌, ◌<◌, ◌≤◌, length, MatchOption, slice_index};
 ghost use Rattle.rows.specs.Memory.{at, square_at};
+ghost use Rattle.elimination.specs.Elimination.{RowsInEchelon, OnesAtPivots};
 ghost use Rattle.leading.specs.Tracking.{Bare, Combines, Extends};
 
 use elimination::echelon::reduce_row;
@@ -26,8 +26,8 @@ pub fn track_row<F: Field>(
     requires small { (d ≤ 16) × (length pivots.now ≤ d) }
     requires wide { length row.old ≡ 32 }
     requires rows_within { length pivots.now * 32 ≤ length tracked.now }
-    requires echelon { Echelon F.field (λ i. i < d) (length pivots.now) (square_at F.field F.value tracked.now 0 32) (λ b. slice_index pivots.now b) }
-    requires ones_at_pivots { (b : ℕ) → b < length pivots.now → square_at F.field F.value tracked.now 0 32 b (slice_index pivots.now b) ≡ F.field.one }
+    requires echelon { RowsInEchelon F.field F.value 32 pivots.now tracked.now d }
+    requires ones_at_pivots { OnesAtPivots F.field F.value 32 pivots.now tracked.now }
     requires no_coefficients { Bare F.field 0 (at F.field F.value row.old) }
     ensures combination_or_new_row { MatchOption result
         (Combines F.field d (length pivots.now) (square_at F.field F.value tracked.now 0 32) (λ b. slice_index pivots.now b) (at F.field F.value row.old) (at F.field F.value row.new))
