@@ -2,13 +2,15 @@
 //! the theorem, which the check therefore asks for. The statements are in specs/Theorems.antt.
 #![tactic(auto)]
 
-ghost use Rattle.std.specs.Prelude.{◌≡◌, ℕ, ◌+◌, ◌*◌, ◌<◌, ◌≤◌, ◌∷◌, reverse};
+ghost use Rattle.std.specs.Prelude.{◌≡◌, ℕ, ◌+◌, ◌*◌, ◌<◌, ◌≤◌, ◌⊎◌, ◌∷◌, ◌++◌, reverse};
 ghost use Rattle.series.specs.Words.{◌≺◌};
 ghost use Rattle.series.specs.WordOrders.{WordOrder};
+ghost use Rattle.series.specs.Tables.{SameTable};
+ghost use Rattle.series.specs.Comparing.{Kept, LeastDifference};
 ghost use Rattle.series.specs.Operations.{sum_table, scaled_table, product_table, after_table, turned_table};
-ghost use Rattle.series.specs.Theorems.{Combines, Maps, Rereads, DependWhere, CombinationDecidable};
-ghost use Rattle.series.specs.Theorems.{KeptPrefix, KeptSpan, KeptShorter, KeptNumber, KeptDecide};
-ghost use Rattle.series.specs.Theorems.{DifferenceHasLeast, LeastDifferenceShorter, AlikeOrDifference, TriedNumber, SameWeights};
+ghost use Rattle.series.specs.Theorems.{Combines, Maps, Rereads, DependWhere, CombinationKnown};
+ghost use Rattle.series.specs.Theorems.{KeptPart, KeptSpan, KeptShorter, KeptNumber, WordsDecide};
+ghost use Rattle.series.specs.Theorems.{DifferenceHasLeast, LeastDifferenceShorter, AlikeOr, TriedNumber, SameWeights};
 ghost use Rattle.series.specs.Theorems.{ReducedWeights, ReducedStates, ReducedCanonical, ReducedExists};
 
 use field::Field;
@@ -30,17 +32,17 @@ pub fn many_vectors_depend<F: Field>()
 
 /// Whether a vector is a combination of finitely many others is decidable.
 pub fn combinations_are_decidable<F: Field>()
-    ensures decidable { CombinationDecidable F.field }
+    ensures decidable { CombinationKnown F.field (λ A. Dec A) }
 {}
 
 /// A prefix of a kept word is kept.
 pub fn prefixes_are_kept<F: Field>()
-    ensures kept { KeptPrefix F.field }
+    ensures kept { KeptPart F.field (λ u v. u ++ v) }
 {}
 
 /// Every pair row is a combination of pair rows of kept words not after it.
 pub fn kept_words_span<F: Field>()
-    ensures combination { KeptSpan F.field }
+    ensures combination { KeptSpan F.field (λ u w. (u ≡ w) ⊎ (u ≺ w)) }
 {}
 
 /// A kept word has fewer letters than both tables have states together.
@@ -55,7 +57,7 @@ pub fn kept_words_are_few<F: Field>()
 
 /// Two tables weigh every word alike exactly when they weigh every kept word alike.
 pub fn kept_words_decide<F: Field>()
-    ensures exactly { KeptDecide F.field }
+    ensures exactly { WordsDecide F.field (λ S T w. Kept F.field S T w) }
 {}
 
 /// If some word differs, there is a least such word; it is kept, and has fewer letters than both tables have states
@@ -67,7 +69,7 @@ pub fn least_difference_is_kept<F: Field>()
 
 /// Two tables weigh every word alike, or there is a least word that differs.
 pub fn tables_compare<F: Field>()
-    ensures decided { AlikeOrDifference F.field }
+    ensures decided { AlikeOr F.field (λ S T v. LeastDifference F.field S T v) }
 {}
 
 /// There is one tried word, and k more for each kept word, where there are k letters.
@@ -77,12 +79,12 @@ pub fn tried_words_number<F: Field>()
 
 /// Tables that agree number for number weigh every word over their letters alike.
 pub fn same_tables_weigh_alike<F: Field>()
-    ensures alike { SameWeights F.field }
+    ensures alike { SameWeights F.field (λ S T. SameTable S T) }
 {}
 
 /// The reduced form weighs as the function does.
 pub fn reduced_form_weighs<F: Field>()
-    ensures weight { ReducedWeights F.field }
+    ensures weight { ReducedWeights F.field (λ w. w) }
 {}
 
 /// No table that weighs as the function does has fewer states than the reduced form.
@@ -92,12 +94,12 @@ pub fn reduced_form_is_smallest<F: Field>()
 
 /// Two reduced forms agree number for number exactly when their functions agree on every word.
 pub fn reduced_form_is_canonical<F: Field>()
-    ensures exactly { ReducedCanonical F.field }
+    ensures exactly { ReducedCanonical F.field (λ R S. SameTable R S) }
 {}
 
 /// Every function that a table weighs has a reduced form.
 pub fn reduced_form_exists<F: Field>()
-    ensures exists { ReducedExists F.field }
+    ensures exists { ReducedExists F.field (λ T. T.letters) }
 {}
 
 /// Shortlex has the laws of a word order.
