@@ -2,6 +2,7 @@
 use crate::bench::{ALL, Bench, DONE, Lent, NOTHING};
 use crate::calls::{after, clear, multiply, scale, sum, weigh, write};
 use book::outcome::Answer;
+use book::refusal::Refusal;
 use field::Field;
 use std::process::Abort;
 
@@ -20,6 +21,20 @@ impl<F: Field, A: Abort + Copy> Bench<F, A> {
                 (scale(1, last, 8), DONE),
                 (weigh(8, &[1, 1]), Ok(Answer::Code(last))),
                 (after(6, 2, 8), DONE),
+            ],
+        );
+        self.check_products();
+    }
+
+    // Tables of 3 and 6 states have no product, whichever comes first.
+    fn check_products(&mut self) {
+        self.check(
+            ALL,
+            &[
+                (sum(1, 2, 7), DONE),
+                (sum(7, 7, 8), DONE),
+                (multiply(7, 8, 1), Err(Refusal::StatesOver)),
+                (multiply(8, 7, 1), Err(Refusal::StatesOver)),
             ],
         );
     }

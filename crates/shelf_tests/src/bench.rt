@@ -10,6 +10,7 @@ use book::verdict::{Kind, Verdict};
 use columns::column::put_number;
 use field::Field;
 use shelf::directory::Directory;
+use shelf::memory::{SHELF, WORK};
 use std::process::Abort;
 
 /// How much of the bench's memory a call is lent, from the front.
@@ -22,8 +23,8 @@ pub struct Lent {
 
 /// All that the bench has: what the largest call asks for.
 pub const ALL: Lent = Lent {
-    shelf: 12544,
-    work: 8192,
+    shelf: SHELF,
+    work: WORK,
     output: 19593,
 };
 
@@ -53,8 +54,10 @@ pub const ODD_VERDICT: Verdict = Verdict {
 pub struct Bench<F, A> {
     pub rt: A,
     directory: Directory,
-    pub shelf: [F; 12544],
-    work: [F; 8192],
+    // Arrays of fixed size, as a caller without a heap lends them; two of elements, since a call reads shelf memory while it
+    // writes work memory.
+    pub shelf: [F; SHELF],
+    work: [F; WORK],
     pub output: [u8; 19593],
     pub verdict: Verdict,
 }
@@ -65,8 +68,8 @@ impl<F: Field, A: Abort + Copy> Bench<F, A> {
         Bench {
             rt,
             directory: Directory::open(),
-            shelf: [F::zero(); 12544],
-            work: [F::zero(); 8192],
+            shelf: [F::zero(); SHELF],
+            work: [F::zero(); WORK],
             output: [byte; 19593],
             verdict: ODD_VERDICT,
         }
@@ -85,10 +88,15 @@ impl<F: Field, A: Abort + Copy> Bench<F, A> {
         changed
     }
 
+    /// Empties the directory; memory keeps what it has.
+    pub fn open(&mut self) {
+        self.directory = Directory::open();
+    }
+
     /// Tables of 1, 2, 4, 8 and 9 states with one letter at places 1 to 5, of 8 states with two letters at place 6, and
     /// no others.
     pub fn fill(&mut self) {
-        self.directory = Directory::open();
+        self.open();
         self.load_least();
         self.check(
             ALL,

@@ -1,5 +1,6 @@
 //! The calls in short: each function takes the arguments of its call in their order, the result place last.
 use book::call::{Call, Request};
+use shelf::memory::WORK;
 
 pub fn load(text: &[u8], to: usize) -> Call<&[u8]> {
     Call::Load { text, to }
@@ -49,7 +50,7 @@ pub fn clear<'a>(place: usize) -> Call<&'a [u8]> {
 pub fn ask(call: Call<&[u8]>) -> Request<'_> {
     Request {
         call,
-        work: 8192,
+        work: WORK,
         output: 19593,
     }
 }

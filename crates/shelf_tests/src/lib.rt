@@ -9,6 +9,8 @@ mod bench;
 #[cfg(test)]
 mod calls;
 #[cfg(test)]
+mod codes;
+#[cfg(test)]
 mod lists;
 #[cfg(test)]
 mod refusals;

@@ -62,6 +62,7 @@ fn refusals_in_words(rt: HostRuntime) -> Result<(), Fail> {
     for (refusal, words) in told {
         let shown = format!(in rt.alloc(); "{refusal}")?;
         assert_eq!(rt; shown.as_str(), words);
+        assert_eq!(rt; refusal.reason(), words);
     }
     Ok(())
 }
