@@ -8,19 +8,17 @@ use text::theorems::{one_text_one_table, one_verdict};
 
 /// Every use follows the book: a word that compare reports has fewer letters than both tables have states together, and
 /// what reduce leaves has at most as many states as any table with its weights.
-pub fn uses_follow_the_book<F: Field>(x: F) -> F
+pub fn uses_follow_the_book<F: Field>()
     ensures law { UsesFollowTheBook F.field F.value (λ n m. n + m) (λ r t. r ≤ t) }
 {
     one_text_one_table::<F>();
-    x
 }
 
 /// What comes of a call is settled by the definitions: one outcome, and one state after, by value. So is what comes of
 /// a list of calls.
-pub fn outcomes_are_settled<F: Field>(x: F) -> F
+pub fn outcomes_are_settled<F: Field>()
     ensures settled { OutcomesAreSettled F.field F.value 8 }
 {
     one_text_one_table::<F>();
     one_verdict::<F>();
-    x
 }

@@ -60,6 +60,8 @@ fn next_row<F: Field>(
 }
 
 // Tries word i followed by one letter, and writes its coefficients.
+// The slices stay parameters: as fields of one struct each step would have to promise of each that it is the same reference
+// still, which is no plainer.
 fn try_letter<F: Field>(
     rows: &mut [F],
     tracked: &mut [F],

@@ -7,6 +7,7 @@ use rows::table::Shape;
 
 /// Writes a table of a shape into a slice that is exactly as long: `write_start` writes the start row, `write_row` each
 /// row of each matrix, given its letter and its number from 0, and `write_end` the end column.
+// The slice stays beside its shape: a type that holds both would have to promise that it is the same reference still.
 pub fn write_table<T, S: FnOnce(&mut [T]), R: Fn(usize, usize, &mut [T]), E: FnOnce(&mut [T])>(
     shape: Shape,
     to: &mut [T],

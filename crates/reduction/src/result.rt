@@ -16,6 +16,7 @@ use spanning::WIDTH;
 
 // Writes the matrix of one letter, of n rows and columns: its rows are the coefficients of each leading word followed by the
 // letter.
+// Coefficients and rows are parts of work memory, which are at least so long; arrays would ask for a copy of each part.
 fn write_matrix<F: Field>(matrix: &mut [F], n: usize, letter: usize, coefficients: &[F])
     requires small { (n ≤ 16) × (letter ≤ 6) }
     requires square { length matrix.old ≡ n * n }

@@ -94,7 +94,7 @@ impl Directory {
         ensures law { UsesFollowTheBook F.field F.value (λ n m. n + m) (λ r t. r ≤ t) }
     {
         // Holds the law that the contract states; nothing is done.
-        uses_follow_the_book(F::zero());
+        uses_follow_the_book::<F>();
         let count = requests.len().min(outcomes.len());
         let asked = &requests[..count];
         // By index: of elements written through zip with iter_mut nothing is known after the loop.

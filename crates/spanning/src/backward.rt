@@ -11,6 +11,8 @@ use rows::row::matrix_times_column;
 use rows::table::TableRef;
 
 // Tries the column of word i with one letter before it.
+// The slices stay parameters: as fields of one struct each step would have to promise of each that it is the same reference
+// still, which is no plainer.
 fn try_column<F: Field>(
     columns: &mut [F],
     echelon: &mut [F],

@@ -18,6 +18,8 @@ pub struct Found {
 
 // Tries a kept word with one letter more: keeps it if its pair row is no combination of those of the kept words, or stops at it
 // if it weighs differently.
+// The slices stay parameters: as fields of one struct each step would have to promise of each that it is the same reference
+// still, which is no plainer.
 fn try_letter<F: Field>(
     rows: &mut [F],
     echelon: &mut [F],
