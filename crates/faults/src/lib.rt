@@ -44,16 +44,16 @@ pub enum LoadFault {
 impl From<ColumnFault> for LineFault {
     ghost from_gives = { λ fault r. r ≡ Column fault };
 
-    fn from(fault: ColumnFault) -> LineFault {
-        LineFault::Column(fault)
+    fn from(column: ColumnFault) -> LineFault {
+        LineFault::Column(column)
     }
 }
 
 impl From<LineFault> for LoadFault {
     ghost from_gives = { λ fault r. r ≡ Line fault };
 
-    fn from(fault: LineFault) -> LoadFault {
-        LoadFault::Line(fault)
+    fn from(line: LineFault) -> LoadFault {
+        LoadFault::Line(line)
     }
 }
 

@@ -1,5 +1,5 @@
 //! The lines of a table's text, read in place.
-ghost use Rattle.std.specs.Prelude.{◌≡◌, ◌+◌, ◌-◌, ◌*◌, ◌<◌, ◌≤◌, [], ◌∷◌, ◌++◌, length, MatchResult};
+ghost use Rattle.std.specs.Prelude.{◌≡◌, ◌+◌, ◌*◌, ◌≤◌, [], ◌∷◌, ◌++◌, length, MatchResult};
 ghost use Rattle.columns.specs.Lines.{letter as letter_of, due_letter, row_due, next, numbers, TenDigits, line as line_of};
 ghost use Rattle.reader.specs.Items.{close, along, after, exact_items, line_items, Stops};
 ghost use Rattle.reader.specs.Steps.{left, Able, AtLine, Went};

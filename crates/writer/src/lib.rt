@@ -1,7 +1,7 @@
 //! The text of a table, written into lent bytes.
 #![tactic(auto)]
 
-ghost use Rattle.std.specs.Prelude.{◌≡◌, ◌+◌, ◌-◌, ◌*◌, ◌<◌, ◌≤◌, [], ◌∷◌, ◌++◌, length, take, drop};
+ghost use Rattle.std.specs.Prelude.{◌≡◌, ◌+◌, ◌*◌, ◌≤◌, [], ◌∷◌, ◌++◌, length, take, drop};
 ghost use Rattle.rows.specs.Layout.{table_size, table_at};
 ghost use Rattle.rows.specs.Seen.{table_of};
 ghost use Rattle.columns.specs.Lines.{letter as letter_of, line as line_of, TenDigits};

@@ -1,14 +1,9 @@
-use Rattle.std.proofs.Common.{◌∷◌, ◌++◌, [], refl, sym, ◌∙◌, subst}
+use Rattle.std.proofs.Common.{refl, ◌∙◌}
 use Rattle.std.proofs.lemmas.List.{length-map}
-use Rattle.std.proofs.lemmas.Grind.{flat_map-append}
-use Rattle.columns.specs.Numbers.{number}
 use Rattle.columns.specs.Lines.{due_letter}
-use Rattle.reader.specs.Items.{after, close}
-use Rattle.reader.specs.Steps.{Went}
-use Rattle.text.specs.Rows.{codes_of}
 use Rattle.text.proofs.Codes.{high_small, codes_high}
 use Rattle.reader.proofs.Moves.{exits}
-use Rattle.reader.proofs.Runs.{stops_here, head_stops, stops_front, exact_past, goes_append, goes_exact, goes_row, heads_after, went_on, line_went, line_stops}
+use Rattle.reader.proofs.Runs.{stops_here, head_stops, stops_front, exact_past, goes_append, goes_exact, goes_row, heads_after, went_on, line_stops}
 use Rattle.text.proofs.lines.codes_line.Goals as goal
 
 pub returns-in_err-then : goal.returns-in_err-then
@@ -44,16 +39,4 @@ returns-in_err-newline g c =
           (line_stops (due_letter c.args.due) c.args.reader.now c.head.new.self c.codes.new.reader _ _ c.in_ok-then.ensures.due_or_halted.0
           (went_on _ _ _ _ _ _ _ _ refl heads.1 c.in_ok-codes.ensures.row_or_stops)
           _ _ (goes_append _ _ _ _ (goes_exact c.args.heads.now heads.0) row) (heads_after c.args.heads.now _ _ _) c.in_err-newline.ensures.next_line_or_halted);
-    }
-
-pub returns : goal.returns
-returns g c =
-    let heads = c.in_ok-exactly.ensures.values_or_stops in
-    let codes = codes_of g.F.Field.field g.F.Field.value c.codes.new.elements in
-    let went = line_went (due_letter c.args.due) c.args.reader.now c.head.new.self c.codes.new.reader _ _ c.in_ok-then.ensures.due_or_halted.0 (went_on _ _ _ _ _ _ _ _ refl heads.1 c.in_ok-codes.ensures.row_or_stops) _ c.in_ok-newline.ensures.next_line_or_halted in
-    record {
-      line_or_stops = (
-        subst (λ l. Went c.args.reader.now c.newline.new.self (due_letter c.args.due ∷ (l ++ 10 ∷ [])) (after close c.args.reader.now.position)) (sym (flat_map-append number c.args.heads.now codes)) went,
-        c.in_ok-then.ensures.due_or_halted.1,
-      );
     }

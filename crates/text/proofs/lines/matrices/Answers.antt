@@ -1,6 +1,4 @@
-use Rattle.std.proofs.Common.{◌≡◌, ◌+◌, ◌-◌, ◌*◌, ◌≤◌, ◌++◌, length, take, drop, ap, subst, ◌∙◌, arith, rules}
-use borrow.Author.Rules.{scaled_fits≤}
-use Rattle.std.proofs.lemmas.List.{length-map}
+use Rattle.std.proofs.Common.{◌≡◌, ◌+◌, ◌-◌, ◌*◌, ◌++◌, length, take, drop, ap, subst, ◌∙◌, arith}
 use Rattle.columns.specs.Lines.{due_letter, row_due, line}
 use Rattle.reader.specs.Items.{line_items, exact_items, after, close, Stops}
 use Rattle.reader.specs.Steps.{left, Went}
@@ -10,34 +8,15 @@ use Rattle.reader.proofs.Moves.{exits}
 use Rattle.text.proofs.Codes.{high_small, lined_next}
 use Rattle.text.proofs.Joins.{rows_fit, part_length}
 use Rattle.text.proofs.Limits.{most, shape_limits}
-use Rattle.text.proofs.Rows.{lined_none, lined_stops, lined_all, part_stops}
-use Rattle.text.proofs.Bodies.{row_due_some, row_due_next, row_due_none}
+use Rattle.text.proofs.Rows.{lined_none, lined_stops, part_stops}
+use Rattle.text.proofs.Bodies.{row_due_some, row_due_next}
 use Rattle.text.proofs.lines.matrices.Goals as goal
 
 pub loop-j-init : goal.loop-j-init
 loop-j-init g c = (lined_none _ _ _ _ c.requires.starts.start, let z : c.args.shape.letters * c.args.shape.states ≡ c.args.shape.letters * c.args.shape.states - 0 = omega arith in c.requires.row_due ∙ ap row_due z)
 
-pub offset_bounds-elements-j : goal.offset_bounds-elements-j
-offset_bounds-elements-j g c =
-    let h = rows_fit c.loop-j.j (c.args.shape.letters * c.args.shape.states) c.args.shape.states c.loop-j-test.true in
-    let inside : c.loop-j.j * c.args.shape.states ≤ length c.loop-j.elements = omega (arith, c.requires.room) in
-    scaled_fits≤ _ _ _ inside (search rules)
-
 pub slice_bounds-elements-end : goal.slice_bounds-elements-end
 slice_bounds-elements-end g c = let h = rows_fit c.loop-j.j (c.args.shape.letters * c.args.shape.states) c.args.shape.states c.loop-j-test.true in omega (arith, c.requires.room)
-
-pub codes_line-requires : goal.codes_line-requires
-codes_line-requires g c =
-    let at = c.loop-j.invariant.0.went.position in
-    let line = ap (λ p. p.line) at in
-    let column = ap (λ p. p.column) at in
-    let h = rows_fit c.loop-j.j (c.args.shape.letters * c.args.shape.states) c.args.shape.states c.loop-j-test.true in
-    let long = part_length (c.loop-j.j * c.args.shape.states) c.args.shape.states c.loop-j.elements (omega (arith, c.requires.room)) in
-    record {
-      starts = record { line = omega (arith, c.requires.starts.line, most c.args.shape.states c.args.shape.letters (shape_limits c.args.shape)); start = column };
-      few_heads = omega (arith, ap length c.heads.ensures.numbered);
-      few = omega (arith, c.args.shape.few_states);
-    }
 
 pub returns-in_err-then : goal.returns-in_err-then
 returns-in_err-then g c =
@@ -65,15 +44,3 @@ loop-j-preserved g c =
       lined_next K value c.args.shape.states c.loop-j.elements c.codes_line.new.elements c.loop-j.j _ (omega (arith, most c.args.shape.states c.args.shape.letters (shape_limits c.args.shape))) (omega (arith, c.requires.room)) (c.codes_line.auto.elements ∙ long) _ c.loop-j.reader c.codes_line.new.reader (due_letter c.loop-j.then) is_row c.loop-j.invariant.0 (subst (λ hs. Went c.loop-j.reader c.codes_line.new.reader (line (due_letter c.loop-j.then) (hs ++ codes_of K value c.codes_line.new.elements)) (after close c.loop-j.reader.position)) c.heads.ensures.numbered read.0),
       row_due_next c.loop-j.then _ c.loop-j.j (c.args.shape.letters * c.args.shape.states) c.loop-j-test.true c.loop-j.invariant.1 read.1,
     )
-
-pub returns : goal.returns
-returns g c =
-    let K = g.F.Field.field in
-    let value = g.F.Field.value in
-    let long = length-map c.loop-j.elements (λ x. K.code (value x)) in
-    record {
-      lines_or_stops = (
-        (lined_all _ _ c.args.shape.states (K.q - 1) (c.args.shape.letters * c.args.shape.states) (codes_of K value c.loop-j.elements) c.loop-j.j (omega arith) (omega (arith, c.requires.room)) c.loop-j.invariant.0).0,
-        row_due_none c.loop-j.then c.loop-j.j (c.args.shape.letters * c.args.shape.states) (omega arith) c.loop-j.invariant.1,
-      );
-    }

@@ -1,6 +1,6 @@
-use Rattle.std.proofs.Common.{refl, arith}
+use Rattle.std.proofs.Common.{arith}
 use Rattle.reader.proofs.Moves.{exits}
-use Rattle.reader.proofs.Runs.{stops_here, stops_exact, head_stops, value_stops, line_went, went_on, exact, went_nil}
+use Rattle.reader.proofs.Runs.{stops_here, stops_exact, head_stops, value_stops}
 use Rattle.text.proofs.lines.table_line.Goals as goal
 
 pub returns-in_err-then : goal.returns-in_err-then
@@ -50,18 +50,4 @@ returns-in_err-newline g c =
           (value_stops 1 6 _ c.within.new.self c.within-2.new.self c.in_ok-letters.letters _ b.0 b.1 b.2 b.3
           (value_stops K.q K.q _ c.within-2.new.self c.within-3.new.self _ _ d.0 (omega arith) (omega arith) d.3
           (stops_here _ _ _ _ _ c.in_err-newline.ensures.next_line_or_halted)))));
-    }
-
-pub returns : goal.returns
-returns g c =
-    let a = c.in_ok-states.ensures.value_or_stopped in
-    let b = c.in_ok-letters.ensures.value_or_stopped in
-    let d = c.in_ok-within.ensures.value_or_stopped in
-    let q = c.order-order.ensures.is_order in
-    let body = went_on _ _ _ _ _ 11 22 33 refl a.3 (went_on _ _ _ _ _ 11 11 22 refl b.3 (went_nil _ _ _ _ (exact c.within-2.new.self c.within-3.new.self _ g.F.Field.field.q _ (omega arith) (omega arith) d.3))) in
-    record {
-      shape_or_stops = (
-        line_went 84 c.args.reader.now c.head.new.self c.within-3.new.self _ _ c.in_ok-then.ensures.due_or_halted.0 body _ c.in_ok-newline.ensures.next_line_or_halted,
-        c.in_ok-then.ensures.due_or_halted.1,
-      );
     }

@@ -8,9 +8,6 @@ use Rattle.text.proofs.Limits.{shape_limits}
 use Rattle.text.proofs.Verdicts.{frame_none, frame_front, first_refuses, body_refuses, accepts, past_refuses}
 use Rattle.text.proofs.table.read_table.Goals as goal
 
-pub slice_bounds-body-end : goal.slice_bounds-body-end
-slice_bounds-body-end g c = omega (arith, c.requires.room, c.size.ensures.at_most_1568)
-
 pub returns-in_err-shape : goal.returns-in_err-shape
 returns-in_err-shape g c =
     let K = g.F.Field.field in
