@@ -71,6 +71,7 @@ impl Refusal {
     }
 
     /// Line and column of an unreadable text's fault, both from 1; 0 and 0 where no text is at fault.
+    // No `Option`: the line for C tells two zeros there.
     pub fn position(&self) -> (u32, u32)
         ensures told { result ≡ refusal_position self.now }
     {

@@ -24,6 +24,7 @@ impl Kind {
 /// The record that compare writes. Alike: so many words were tried and kept, and the rest is 0. Differs: the word
 /// reported, with its length, the codes of its weights and its letters, unused places 0; tried counts up to it, itself
 /// counted, and kept is 0.
+// No enum with what belongs to each kind: the record's form, with zeros in unused places, is the product's.
 #[derive(Clone, Copy, Debug, PartialEq, Eq)]
 pub struct Verdict {
     pub kind: Kind,

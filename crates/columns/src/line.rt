@@ -20,7 +20,7 @@ pub enum Kind {
 pub struct UnknownKind;
 
 /// The line that is due: of a kind, or none after the last.
-// No `Option<Kind>`: `turn` matches on two plain enums, a case for each pair that may come.
+// No `Option<Kind>`: the product names two plain enums, the line due and the kind read, and `turn` is the match on both.
 #[derive(Clone, Copy, Debug, PartialEq, Eq)]
 pub enum Due {
     Table,

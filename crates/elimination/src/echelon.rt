@@ -7,6 +7,7 @@ use field::Field;
 use rows::row::{first_nonzero, scale_row, subtract_multiple};
 
 /// Takes from the row what the rows of `basis`, as many as there are pivots, take of it: it is zero at their pivots then.
+// Echelon form is a fact and no type: the rows lie in a longer slice, and the next one is written behind them.
 pub fn reduce_row<F: Field>(row: &mut [F], basis: &[F], pivots: &[usize])
     requires rows_within { length pivots.now * length row.old ≤ length basis.now }
     requires echelon_form { RowsInEchelon F.field F.value (length row.old) pivots.now basis.now (length row.old) }

@@ -102,6 +102,7 @@ fn try_letters<F: Field>(
     requires due { Trying F.field F.value view.now i 1 pivots.old.items rows.old tracked.old coefficients.old }
     ensures all_tried { Trying F.field F.value view.now i (view.now.table.shape.letters + 1) pivots.new.items rows.new tracked.new coefficients.new }
 {
+    // A letter is its number.
     for letter in 1..=view.table.letters() {
         try_letter(rows, tracked, coefficients, pivots, i, letter, view);
     }
@@ -118,7 +119,7 @@ fn follow_words<F: Field>(
     requires begun { Walked F.field F.value view.now 0 pivots.old.items rows.old tracked.old coefficients.old }
     ensures walked { Walked F.field F.value view.now (length pivots.new.items) pivots.new.items rows.new tracked.new coefficients.new }
 {
-    // The bound grows while the loop runs. One walk for both passes would need a type that holds a pass's slices and is lent.
+    // The bound grows while the loop runs.
     let mut i = 0;
     while i < pivots.len() {
         try_letters(rows, tracked, coefficients, pivots, i, view);

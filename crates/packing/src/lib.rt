@@ -15,7 +15,7 @@ use shelf::directory::Directory;
 
 pub mod packed;
 
-// How many states the table of a place has, 0 where there is none.
+// How many states the table of a place has, 0 where there is none; it is asked only where one was just made, so no `Option`.
 fn states(directory: &Directory, place: usize) -> usize
     ensures told { result ≡ states_of (at_place empty (map entry_of directory.now.entries) place) }
 {

@@ -16,7 +16,7 @@ use spanning::WIDTH;
 
 // Writes the matrix of one letter, of n rows and columns: its rows are the coefficients of each leading word followed by the
 // letter.
-// Coefficients and rows are parts of work memory, which are at least so long; arrays would ask for a copy of each part.
+// The lengths of coefficients and rows stand in three contracts: as arrays they would be cut off at each split, which is no plainer.
 fn write_matrix<F: Field>(matrix: &mut [F], n: usize, letter: usize, coefficients: &[F])
     requires small { (n ≤ 16) × (letter ≤ 6) }
     requires square { length matrix.old ≡ n * n }
@@ -44,7 +44,8 @@ fn write_matrices<F: Field>(matrices: &mut [F], shape: Shape, coefficients: &[F]
     }
 }
 
-// Writes to `to` what each leading word weighs: its row times the end column.
+// Writes to `to` what each leading word weighs: its row times the end column. Its rows lie 16 elements apart, those that
+// `matrix_times_column` takes one behind the other.
 fn write_end<F: Field>(to: &mut [F], rows: &[F], end: &[F])
     requires short { (length to.old ≤ 16) × (length end.now ≤ 16) }
     requires rows_within { 256 ≤ length rows.now }

@@ -20,7 +20,7 @@ use telling::tell;
 use theorems::{one_line, q_where_alike};
 
 // Reports over a field, with memory of its own. What it asks is of the size of an element alone; the functions for each
-// field ask nothing, since the size is known there.
+// field ask nothing, since the size is known there. Each promises at most 387 bytes itself, as its callers read that one.
 fn report_over<F: Field>(first: &[u8], second: &[u8], out: &mut [u8]) -> usize
     requires elements_fit { 12544 * type_size F.row < 2 ^ 63 }
     ensures reports { Reports F.field first.now second.now out.old result out.new }

@@ -14,7 +14,7 @@ use field::Field;
 /// The longest line: a first byte, four numbers, 31 letters and byte 10.
 const LONGEST: usize = 387;
 
-// Writes a line to the front of the output: how many bytes it has.
+// Writes a line to the front of the output: how many bytes it has. The output is the C caller's, who is told the count.
 fn put_in_front(out: &mut [u8; LONGEST], first: u8, values: &[u64], letters: &[u8]) -> usize
     requires few { length values.now ≤ 4 }
     requires ten_digits { TenDigits values.now }
@@ -27,7 +27,7 @@ fn put_in_front(out: &mut [u8; LONGEST], first: u8, values: &[u64], letters: &[u
     count
 }
 
-// Writes the line of a refused text, or of the two together: how many bytes it has.
+// Writes the line of a refused text, or of the two together: how many bytes it has. The text is a number since the line tells it.
 fn put_refused(out: &mut [u8; LONGEST], text: u8, refusal: &Refusal) -> usize
     ensures told { AtFront (refused_line text refusal.now) out.old result out.new }
     ensures at_most { result ≤ 387 }

@@ -48,6 +48,7 @@ pub fn subtract_multiple<F: Field>(row: &mut [F], factor: F, other: &[F])
     requires as_long { length other.now ≡ length row.old }
     ensures difference_written { RowOf F.field F.value (length row.old) (less_multiple F.field (at F.field F.value row.old) (F.value factor) (at F.field F.value other.now)) row.new }
 {
+    // `other[j]`: after a `zip` with `iter_mut` nothing is known of the elements.
     for (j, x) in row.iter_mut().enumerate() {
         *x = x.add(factor.mul(other[j]).neg());
     }

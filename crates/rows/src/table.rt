@@ -51,6 +51,7 @@ impl Shape {
 
 /// A table of a shape that lies in memory from the element `base` on: its start row, its matrices by letter and then by
 /// row, and its end column.
+// The whole memory and where the table begins, not the part alone: so it stands for the very table that a shelf names there.
 pub struct TableRef<'a, F> {
     memory: &'a [F],
     base: usize,

@@ -33,6 +33,7 @@ impl Directory {
         self.set(to, Entry::of(shape));
     }
 
+    // Turn, scale and after share `one_table` and `keep`; what stands between them, and is promised, is another function for each.
     /// Makes the table of a place turned: it weighs each word as that one weighs the word read backwards.
     pub fn turn<F: Field>(
         &mut self,

@@ -162,6 +162,7 @@ impl<F: Field, A: Abort + Copy> Bench<F, A> {
     }
 
     /// Each call is refused for this reason.
+    // Not by `check`, whose cases would each name the one outcome.
     pub fn check_refused(&mut self, lent: Lent, refusal: Refusal, calls: &[Call<&[u8]>]) {
         for (i, call) in calls.iter().enumerate() {
             let made = self.make(lent, call);

@@ -49,6 +49,7 @@ fn try_columns<F: Field>(
     ensures all_tried { ColumnDue F.field F.value (table_of F.field F.value table.entry) i (table.entry.shape.letters + 1) pivots.new.items columns.new echelon.new }
     ensures word_found { i < length pivots.new.items }
 {
+    // A letter is its number.
     for letter in 1..=table.letters() {
         try_column(columns, echelon, pivots, i, letter, table);
     }

@@ -1,5 +1,5 @@
 //! The backward pass of a reduction, which finds columns that span the columns of all words. What a reduction finds lies in slices
-//! that are lent, apart from each other: the checker does not cover a struct that holds several of them and is lent itself.
+//! that are lent, apart from each other.
 #![tactic(auto)]
 
 use arrayvec::ArrayVec;

@@ -174,6 +174,7 @@ pub fn large_table(
 }
 
 /// An x in the place of each byte, one after another.
+// Not one with `every_change`: a closure for what is tried at a place would borrow the text that the loop goes over.
 fn crossed(text: &mut [u8], work: &mut [Fermat; 1568]) -> Tally {
     let mut tally = Tally::new();
     // an index, since the whole text is read while one of its bytes is changed

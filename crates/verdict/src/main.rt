@@ -114,6 +114,7 @@ fn work<'a>(rt: &'a HostRuntime, field: Offered, files: &'a [String]) -> anyhow:
     let mut line = [0u8; 387];
     let count = report_offered(field, first.as_slice(), second.as_slice(), &mut line);
     rt.stdout().write_all(&line[..count])?;
+    // By the first byte: the line is all that a report answers.
     if line[0] == b'R' {
         let first = Named {
             name: names.0,

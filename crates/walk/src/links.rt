@@ -11,6 +11,7 @@ pub struct Link {
 }
 
 /// The kept words so far: the pivots of the rows in echelon form, and the words' links.
+// Two vectors and not one of pairs: the pivots are read as a slice.
 #[derive(Drop)]
 pub struct Walk {
     pub pivots: ArrayVec<usize, 32>,

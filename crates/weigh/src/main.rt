@@ -19,7 +19,8 @@ use std::process::ExitCode;
 use std::{fmt, fs};
 use text::table::read_table;
 
-// The letter of a byte: a digit's number, and 0, which is no letter of any table, for any other byte.
+// The letter of a byte: a digit's number, and 0, which is no letter of any table, for any other byte. No `Option`: the weighing
+// itself tells where the first letter is that the table lacks.
 fn letter_of(b: u8) -> u8
     ensures by_digit { result ≡ letter b }
 {
@@ -47,10 +48,10 @@ fn weight_code<F: Field>(
 
 // What stands at a position, from 1, of a line.
 fn shown(line: &[u8], position: usize) -> char
-    requires from_1 { 1 ≤ position }
-    ensures at_position { MatchOption (slice_get line.now (position - 1)) (result ≡ 63) (λ b. result ≡ b) }
+    ensures at_position { 1 ≤ position → MatchOption (slice_get line.now (position - 1)) (result ≡ 63) (λ b. result ≡ b) }
 {
-    line.get(position - 1).map_or('?', |b| char::from(*b))
+    line.get(position.wrapping_sub(1))
+        .map_or('?', |b| char::from(*b))
 }
 
 // Where and why a table is refused, in this program's own words, which are not those of the fault.

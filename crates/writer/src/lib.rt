@@ -78,6 +78,7 @@ pub fn text_size(shape: Shape) -> usize
 }
 
 /// Writes the text of a table to the front of `output`: how many bytes it has.
+// The output is lent, since the library has no heap; so the count is told.
 pub fn write_table<F: Field>(table: TableRef<'_, F>, output: &mut [u8]) -> usize
     requires room { text_size table.shape.states table.shape.letters ≤ length output.old }
     ensures counted { result ≡ text_size table.entry.shape.states table.entry.shape.letters }
