@@ -9,10 +9,10 @@ use faults::{ColumnFault, LineFault, LoadFault, Position};
 use residue::Fermat;
 
 // The text of ones with this number as the code of its S line.
-fn started_with(number: u64) -> [u8; 98] {
+fn started_with(number: u32) -> [u8; 98] {
     let mut text = ONES;
     let bytes = &mut text[..];
-    put_number(&mut bytes[36..47], number);
+    put_number(&mut bytes[36..47], u64::from(number));
     text
 }
 
