@@ -1,1 +1,2 @@
 mod Single
+pub mod Verbs

@@ -13,10 +13,8 @@ use crate::verb::Verb;
 use crate::words::next_word;
 use book::call::Call;
 use command::offered::Offered;
+use shelf::memory::SHELF;
 use std::alloc::Global;
-
-/// How many elements a shelf can be opened with.
-pub const SHELF: usize = 12544;
 
 /// What is performed. A call owns its text or word.
 #[derive(Drop)]
@@ -165,7 +163,8 @@ fn call_of_one(verb: Verb, line: &[u8]) -> Result<Call<Vec<u8>>, Reason>
     }
 }
 
-// The call of a verb that names places, and a code, a letter or a word, and no text.
+// The call of a verb that names places, and a code, a letter or a word, and no text. By how many numbers the verb has, since one
+// function of all calls would be twice as long as it should be; none of the others meets another verb.
 fn call(heap: Global, verb: Verb, line: &[u8]) -> Result<Call<Vec<u8>>, Reason>
     ensures read { IfOk result (λ a. (verb_of a ≡ verb) × Arguments a line.now) }
 {

@@ -10,7 +10,7 @@ ghost use Rattle.scripting.specs.Telling.{told_line};
 ghost use Rattle.scripting.specs.declared.performing.Failure.TheVariants.{NoMemory};
 
 use crate::mistake::Mistake;
-use crate::order::{Order, SHELF};
+use crate::order::Order;
 use crate::outcomes::Shown;
 use crate::reading::{Entry, Line, Script, read};
 use crate::verb::Verb;
@@ -21,12 +21,10 @@ use book::verdict::Verdict;
 use command::offered::{Offered, OverField, with_field};
 use field::Field;
 use shelf::directory::Directory;
+use shelf::memory::{SHELF, WORK};
 use std::alloc::{AllocError, Global};
 use std::error::Error;
 use std::{fmt, slice};
-
-/// How many elements of work memory there are.
-pub const WORK: usize = 8192;
 
 /// How many bytes of output there are: as many as the longest text of a table has.
 pub const OUTPUT: usize = 19593;

@@ -87,12 +87,8 @@ impl TryFrom<&[u8]> for Verb {
     ghost try_from_gives = { λ word r. MatchResult r (λ v. name_of v ≡ word.now) (λ _. (v : Verb) → name_of v ≢ word.now) };
 
     fn try_from(word: &[u8]) -> Result<Verb, Reason> {
-        for verb in Verb::ALL {
-            if verb.name().as_bytes() == word {
-                return Ok(verb);
-            }
-        }
-        Err(Reason::NoCall)
+        let found = Verb::ALL.iter().find(|verb| verb.name().as_bytes() == word);
+        found.copied().ok_or(Reason::NoCall)
     }
 }
 
