@@ -14,6 +14,7 @@ use command::wish::name_or;
 use field::Field;
 use packing::pack;
 use packing::packed::Packed;
+use shelf::memory::{SHELF, WORK};
 use std::io::Write;
 use std::process::ExitCode;
 use std::{fs, io};
@@ -91,8 +92,8 @@ impl OverField for Packing<'_> {
     fn over<F: Field>(self) -> anyhow::Result<()> {
         let Packing { rt, text, files } = self;
         let name = name_or(files, 0, "table");
-        let mut shelf = [F::zero(); 12544];
-        let mut work = [F::zero(); 8192];
+        let mut shelf = [F::zero(); SHELF];
+        let mut work = [F::zero(); WORK];
         let mut output = [0u8; 19593];
         let done = pack(&mut shelf, &mut work, &mut output, text).map_err(|refusal| refused(
             rt, name, refusal,

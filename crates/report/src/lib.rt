@@ -16,6 +16,7 @@ pub mod theorems;
 use byte::Byte;
 use field::Field;
 use residue::{Bit, Fermat};
+use shelf::memory::{SHELF, WORK};
 use telling::tell;
 use theorems::{one_line, q_where_alike};
 
@@ -29,8 +30,8 @@ fn report_over<F: Field>(first: &[u8], second: &[u8], out: &mut [u8]) -> usize
     ensures one_line { OneLine F.field }
 {
     let zero = F::zero();
-    let mut shelf = [zero; 12544];
-    let mut work = [zero; 8192];
+    let mut shelf = [zero; SHELF];
+    let mut work = [zero; WORK];
     // These hold what the last two clauses state; nothing is done.
     q_where_alike::<F>();
     one_line::<F>();
