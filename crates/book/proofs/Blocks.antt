@@ -1,5 +1,5 @@
 -- Tables and the elements that they lie in. Assumes nothing.
-use Rattle.std.proofs.Common.{◌≡◌, ℕ, zero, suc, ◌+◌, ◌-◌, ◌*◌, ◌/◌, ◌%◌, ◌<◌, ◌≤◌, List, sym, refl, ap, ◌∙◌, mod-lt, mul_assoc, div-lt_iff_lt-mul, add-mul, mul-le-mul, mul-zero, div-add-mod', arith}
+use Rattle.std.proofs.Common.{◌≡◌, ℕ, zero, suc, ◌+◌, ◌-◌, ◌*◌, ◌/◌, ◌%◌, ◌<◌, ◌≤◌, List, sym, refl, ap, ◌∙◌, mod-lt, mul_assoc, div-lt_iff_lt-mul, add-mul, mul-zero, div-add-mod', arith}
 use native.Mathlib.Decide.{dec_lt}
 use Rattle.std.proofs.lemmas.Nat.{mul-add-lt}
 use Rattle.field.specs.FiniteField.{FiniteField}
@@ -7,14 +7,6 @@ use Rattle.series.specs.Tables.{Table, SameTable}
 use Rattle.rows.specs.Memory.{at}
 use Rattle.rows.specs.Layout.{table_size, matrix_offset, end_offset, table_at}
 use Rattle.rows.proofs.Layouts.{matrix_within, MatrixRow, matrix_row}
-use Rattle.text.specs.Texts.{Limits}
-
--- a table takes at most the room of its place
-pub fits : (n k : ℕ) → Limits n k → table_size n k ≤ 1568
-fits n k l =
-    let a : n * n ≤ 16 * 16 = mul-le-mul l.states l.states in
-    let b : k * (n * n) ≤ 6 * 256 = mul-le-mul l.letters a in
-    omega (arith, l.states)
 
 pub same_sym : {V : Type 0} (S T : Table V) → SameTable S T → SameTable T S
 same_sym S T e = record {

@@ -14,7 +14,8 @@ use Rattle.book.specs.Shelves.{Entry, empty, filled, Shelf, State, Place, at_pla
 use Rattle.book.specs.Doing.{Makes}
 use Rattle.book.specs.Using.{Page, blank, holds, letters_on, weights_on, page}
 use Rattle.book.proofs.Places.{place?, at_outside, at_same, at_other, length_with, apart}
-use Rattle.book.proofs.Blocks.{fits, same_by_values}
+use Rattle.text.proofs.Limits.{block_fits}
+use Rattle.book.proofs.Blocks.{same_by_values}
 
 module _ {V : Type 0} (K : FiniteField V) {F : Type 0} (value : F → V) where
   -- what lies at a place, and what the book says of it
@@ -60,11 +61,11 @@ module _ {V : Type 0} (K : FiniteField V) {F : Type 0} (value : F → V) where
   good_same xs ys b empty blank h g = g
   good_same xs ys b empty (holds j f) h g = g
   good_same xs ys b (filled n k) blank h g = g
-  good_same xs ys b (filled n k) (holds j f) h g = (g.0, g.1, λ w o. same_weight K (table_at K value ys b n k) (table_at K value xs b n k) (same_by_values K value ys xs b n k (λ i low high. h i low (omega (arith, fits n k g.0)))) w o ∙ g.2 w o)
+  good_same xs ys b (filled n k) (holds j f) h g = (g.0, g.1, λ w o. same_weight K (table_at K value ys b n k) (table_at K value xs b n k) (same_by_values K value ys xs b n k (λ i low high. h i low (omega (arith, block_fits n k g.0)))) w o ∙ g.2 w o)
 
   -- elements of a place other than the one that is written keep their values
   pub others_same : (xs ys : List F) (p to n k : ℕ) → Place p → Place to → to ≢ p → Limits n k → Frame (begins to) (table_size n k) xs ys → (i : ℕ) → begins p ≤ i → i < begins p + 1568 → at K value ys i ≡ at K value xs i
-  others_same xs ys p to n k l m u lim frame i low high = go (apart p to i (table_size n k) l m u (fits n k lim) low high)
+  others_same xs ys p to n k l m u lim frame i low high = go (apart p to i (table_size n k) l m u (block_fits n k lim) low high)
     where
       go : (i < begins to) ⊎ (begins to + table_size n k ≤ i) → at K value ys i ≡ at K value xs i
       go (inl h) = frame_below K value frame i h

@@ -16,7 +16,8 @@ use Rattle.book.specs.Using.{lending, Use, none, next, Opening, Page, blank, hol
 use Rattle.book.specs.Law.{Changes, Untouched, still, later}
 use Rattle.book.specs.Outcomes.{Outcome}
 use Rattle.book.proofs.Places.{place?, at_other, at_outside, apart}
-use Rattle.book.proofs.Blocks.{fits, same_by_values}
+use Rattle.text.proofs.Limits.{block_fits}
+use Rattle.book.proofs.Blocks.{same_by_values}
 use Rattle.book.proofs.Standing.{Good, Stands, anywhere}
 use Rattle.book.proofs.Books.{InStep, makes, empties, rests, heard, hears_some}
 use Rattle.book.proofs.Uses.{use_booked, use_stands}
@@ -24,7 +25,7 @@ use Rattle.book.proofs.Uses.{use_booked, use_stands}
 -- a table in range takes at most the room of its place
 range_fits : (e : Entry) → InRange e → table_size (states_of e) (letters_of e) ≤ 1568
 range_fits empty r = omega arith
-range_fits (filled n k) r = fits n k r
+range_fits (filled n k) r = block_fits n k r
 
 module _ {V : Type 0} (K : FiniteField V) {F : Type 0} (value : F → V) where
   -- every entry is in range
@@ -81,7 +82,7 @@ module _ {V : Type 0} (K : FiniteField V) {F : Type 0} (value : F → V) where
       side k y (inr h) = frame.above k y h
 
       go : Dec (Place p) → (k : ℕ) (y : F) → begins p ≤ k → k < begins p + table_size (states_of (entry s.shelf p)) (letters_of (entry s.shelf p)) → get_or t.shelf.memory k y ≡ get_or s.shelf.memory k y
-      go (yes h) k y low high = side k y (apart p to k (table_size R.states R.letters) h l (λ d. away (sym d)) (fits R.states R.letters lim) low (omega (arith, range_fits (entry s.shelf p) (stands_range s.shelf B i p))))
+      go (yes h) k y low high = side k y (apart p to k (table_size R.states R.letters) h l (λ d. away (sym d)) (block_fits R.states R.letters lim) low (omega (arith, range_fits (entry s.shelf p) (stands_range s.shelf B i p))))
       go (no h) k y low high = absurd (let z : k < begins p + table_size 0 0 = subst (λ e. k < begins p + table_size (states_of e) (letters_of e)) (at_outside empty s.shelf.entries p h i.entries) high in omega arith)
   step_stays s t B B' Changed p u i (empties q m l x e) = record {
     length_same = ap length x.memory;

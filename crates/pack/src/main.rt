@@ -40,7 +40,7 @@ const PACK: Program<'static> = Program {
     files: 2,
 };
 
-// Tells what was done.
+// Tells what was done; no `Display`, since the type is another crate's.
 fn tell(rt: &HostRuntime, name: &str, q: u64, done: &Packed) -> anyhow::Result<()> {
     eprintln!(rt;
         "{name}: {} states packed to {} over GF({q}), {} bytes",

@@ -44,6 +44,7 @@ fn reduce_into<F: Field>(form: &mut [F], rest: &mut [F], table: TableRef<'_, F>)
 
 /// Reduces a table: leaves its reduced form in work memory, as a table at element 0, and answers its number of states. What else
 /// work memory holds then, nothing is promised of.
+// How long it is stays a clause: an array of elements would ask its caller for one, and a shelf is lent slices.
 pub fn reduce<F: Field>(work: &mut [F], table: TableRef<'_, F>) -> usize
     requires room { 8192 ≤ length work.old }
     ensures reduced_form { Reduced F.field table.entry.shape.letters (weight F.field (table_of F.field F.value table.entry)) (table_at F.field F.value work.new 0 result table.entry.shape.letters) }

@@ -17,6 +17,7 @@ pub enum Rejection {
 }
 
 /// Loads the first text, then the second, and compares the two tables.
+// That the memories are whole stays a clause, as for the calls of the shelf, which take slices; only here no call is refused for it.
 pub fn find<F: Field>(
     shelf: &mut [F],
     work: &mut [F],

@@ -31,6 +31,7 @@ pub enum Comparison {
 }
 
 /// Compares two tables that have one letter count. Work memory is overwritten.
+// How long it is stays a clause: an array of elements would ask its caller for one, and a shelf is lent slices.
 pub fn compare<F: Field>(work: &mut [F], pair: Pair<'_, F>) -> Comparison
     requires room { 8192 ≤ size work.old }
     ensures answer { Compared F.field (left_table F.field F.value pair.entry) (right_table F.field F.value pair.entry) result }

@@ -1,5 +1,5 @@
 -- A table that is built in work memory and copied to its place. Assumes nothing.
-use Rattle.std.proofs.Common.{◌≡◌, ℕ, List, map, length, Option, Some, None, Result, Err, ok_or, MatchOption, sym, refl, ap, ap₂, ◌∙◌, subst, subst₂}
+use Rattle.std.proofs.Common.{◌≡◌, ℕ, List, map, length, Result, sym, refl, ap, ap₂, ◌∙◌, subst, subst₂}
 use Rattle.std.specs.Result.{IsErrAnd}
 use Rattle.std.proofs.lemmas.Result.{err_from_is_err_and}
 use Rattle.field.specs.FiniteField.{FiniteField}
@@ -19,11 +19,6 @@ use Rattle.book.specs.declared.outcome.Answer.{Answer}
 use Rattle.shelf.specs.Views.{entry_of, shelf_of, state, outcome_by}
 use Rattle.shelf.specs.Checking.{Found}
 use Rattle.shelf.specs.declared.entry.Entry.{Entry as EntryCode}
-
--- what an `Option` was where an error stands for its `None`
-pub was_none : {A E : Type 0} (o : Option A) (P : Type 0) (Q : A → Type 0) {f : E} (e : E) → Err f ≡ ok_or o e → MatchOption o P Q → (f ≡ e) × P
-was_none (Some x) P Q e h m = cc
-was_none None P Q e h m = (cc, m)
 
 same_refl : {V : Type 0} (R : Table V) → SameTable R R
 same_refl R = record { states = refl; letters = refl; start = λ i l. refl; step = λ a low high i l j h. refl; end = λ i l. refl }

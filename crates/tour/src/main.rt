@@ -19,7 +19,7 @@ use writer::write_table;
 const FIBONACCI: &[u8] =
     b"T          2          1      65537\nS          1          0\nM          1          1          0          1\nM          1          2          1          1\nE          0          1\nZ\n";
 
-// Tells what a comparison found.
+// Tells what a comparison found; no `Display`, since the type is another crate's.
 fn tell(rt: &HostRuntime, found: Comparison) -> io::Result<()> {
     match found {
         Comparison::Alike { tried, kept } => {

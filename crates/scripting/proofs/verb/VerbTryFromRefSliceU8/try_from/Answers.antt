@@ -1,5 +1,4 @@
 use Rattle.std.proofs.Common.{◌≡◌, ◌≢◌, refl, rules, tests}
-use Rattle.std.specs.Prelude.{MatchResult}
 use Rattle.std.proofs.lemmas.Iterator.{first_from_find, YieldsList-from_slice}
 use Rattle.scripting.specs.Naming.{name_of}
 use Rattle.scripting.proofs.Verbs.{named, verbs}

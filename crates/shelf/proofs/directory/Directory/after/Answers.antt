@@ -8,7 +8,8 @@ use Rattle.book.specs.Refusing.{Refuses}
 use Rattle.book.specs.declared.outcome.Answer.TheVariants.{Done}
 use Rattle.shelf.specs.Views.{shelf_of, state}
 use Rattle.shelf.proofs.Gating.{makes_of_one}
-use Rattle.shelf.proofs.Made.{was_none, table_found, made_held, refused}
+use Rattle.reader.proofs.Moves.{ok_or_err}
+use Rattle.shelf.proofs.Made.{table_found, made_held, refused}
 use Rattle.shelf.proofs.Late.{after_accepts, after_refuses}
 use Rattle.shelf.proofs.directory.Directory.after.Goals as goal
 
@@ -21,7 +22,7 @@ returns-in_err-letter g c =
     let t = c.in_ok-table.table in
     let e = ap letters_of c.in_ok-table.ensures.found.0.told in
     let a = after c.args.place c.args.letter c.args.to in
-    let h = was_none c.letter.result _ _ _ c.in_err-letter.ensures.value c.letter.ensures.one_of_the_letters in
+    let h = ok_or_err c.letter.result _ _ _ c.in_err-letter.ensures.value c.letter.ensures.one_of_the_letters in
     record {
       does = λ out w.
           let s = state es mem (length c.args.work.now) out w in

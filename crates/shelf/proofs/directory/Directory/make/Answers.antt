@@ -6,8 +6,3 @@ pub returns-in-Clear : goal.returns-in-Clear
 returns-in-Clear g c =
     let does = clear_does g.F.Field.field g.F.Field.value c.args.self.now.entries c.clear.new.self.entries c.args.shelf.now (length c.args.work.now) c.args.output.now c.args.verdict.now c.in-Clear.place c.clear.result c.clear.ensures.clears in
     search rules
-
-pub returns-in-Compare : goal.returns-in-Compare
-returns-in-Compare g c =
-    let does = c.compare.ensures.does c.args.output.now in
-    search rules

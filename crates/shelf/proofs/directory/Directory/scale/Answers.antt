@@ -8,7 +8,8 @@ use Rattle.book.specs.Refusing.{Refuses}
 use Rattle.book.specs.declared.outcome.Answer.TheVariants.{Done}
 use Rattle.shelf.specs.Views.{shelf_of, state}
 use Rattle.shelf.proofs.Gating.{makes_of_one}
-use Rattle.shelf.proofs.Made.{was_none, table_found, made_held, refused}
+use Rattle.reader.proofs.Moves.{ok_or_err}
+use Rattle.shelf.proofs.Made.{table_found, made_held, refused}
 use Rattle.shelf.proofs.Late.{scale_accepts, scale_refuses}
 use Rattle.shelf.proofs.directory.Directory.scale.Goals as goal
 
@@ -20,7 +21,7 @@ returns-in_err-factor g c =
     let mem = c.args.shelf.now in
     let t = c.in_ok-table.table in
     let a = scale c.args.place c.args.code c.args.to in
-    let h = was_none c.from_code.result _ _ _ c.in_err-factor.ensures.value c.from_code.ensures.is_decoded_below_order in
+    let h = ok_or_err c.from_code.result _ _ _ c.in_err-factor.ensures.value c.from_code.ensures.is_decoded_below_order in
     record {
       does = λ out w.
           let s = state es mem (length c.args.work.now) out w in
