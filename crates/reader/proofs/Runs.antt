@@ -1,7 +1,7 @@
 -- What several steps of the reader go over, and where they stop. Assumes nothing.
-use Rattle.std.proofs.Common.{◌≡◌, ℕ, zero, suc, ◌+◌, ◌*◌, ◌^◌, ◌<◌, ◌≤◌, ◌⊎◌, List, [], ◌∷◌, ◌++◌, length, get_or, take, drop, set, replicate, sym, refl, ap, ◌∙◌, subst, inl, inr, append_assoc, append-nil, arith}
+use Rattle.std.proofs.Common.{◌≡◌, ℕ, zero, suc, ◌+◌, ◌*◌, ◌^◌, ◌<◌, ◌≤◌, ◌⊎◌, List, [], ◌∷◌, ◌++◌, length, get_or, take, drop, set, replicate, sym, refl, ap, ◌∙◌, subst, inl, inr, append_assoc, arith}
 use Rattle.std.specs.List.{AllByRecursion as All}
-use Rattle.std.proofs.lemmas.List.{take_more, take_more_set, drop_more, take-append-drop, map-append, length-take, take_at, take_all}
+use Rattle.std.proofs.lemmas.List.{take_more_set, drop_more, take-append-drop, map-append, length-take, take_at}
 use Rattle.std.proofs.slice.Lists.{all_by_recursion_push}
 use Rattle.columns.specs.Numbers.{number}
 use Rattle.columns.specs.Lines.{numbers, TenDigits}
@@ -40,9 +40,6 @@ pub record Rowed (r s : Reader) (codes : List ℕ) (i high : ℕ) : Type 0 where
   pub went : Went r s (numbers (take i codes)) (along r.position (11 * i))
   pub below : All (λ v. v ≤ high) (take i codes)
 
-pub rowed_none : (r : Reader) (codes : List ℕ) (high : ℕ) → Rowed r r codes 0 high
-rowed_none r codes high = record { went = went_none r _ (standing r.position 0 refl); below = tt }
-
 pub rowed_more : (r s t : Reader) (codes : List ℕ) (i high v : ℕ) → i < length codes → Rowed r s codes i high → v ≤ high → Went s t (number v) (along s.position 11) → Rowed r t (set codes i v) (i + 1) high
 rowed_more r s t codes i high v on rowed h w =
     let step = subst (λ p. Went s t (number v) (along p 11)) rowed.went.position w in
@@ -77,13 +74,6 @@ rowed_stops r s codes i n high f small on more rowed stopped =
 -- a number that is read and then refused
 pub misfits : (r s : Reader) (v low high : ℕ) → v < 10 ^ 10 → Went r s (number v) (along r.position 11) → (v < low) ⊎ (high < v) → Misfits (ranged low high) r.position (left r) r.position
 misfits r s v low high small w out = (v, small, ap (take 11) w.over ∙ take_at (number v) (left s) 11 (length_number v small), out, refl)
-
-pub rowed_all : (r s : Reader) (codes : List ℕ) (i n high : ℕ) → Rowed r s codes i high → i ≡ length codes → i ≡ n → Went r s (numbers codes) (along r.position (11 * n)) × All (λ v. v ≤ high) codes
-rowed_all r s codes i n high rowed e k =
-    let all : take i codes ≡ codes = take_all i codes (omega arith) in (
-      subst (λ m. Went r s (numbers codes) (along r.position (11 * m))) k (subst (λ l. Went r s (numbers l) (along r.position (11 * i))) all rowed.went),
-      subst (All (λ v. v ≤ high)) all rowed.below,
-    )
 
 pub stops_front : (is js : List Item) (p : Position) (bs : List ℕ) (f : LoadFault) → Stops is p bs f → Stops (is ++ js) p bs f
 unfolding Stops
@@ -124,10 +114,6 @@ went_stops i is r s a f h w stops = inr (a, left s, h, w.over, subst (λ p. Stop
 pub went_stops_all : (is js : List Item) (r s : Reader) (a : List ℕ) (f : LoadFault) → Goes is a → Went r s a (after_all is r.position) → Stops js s.position (left s) f → Stops (is ++ js) r.position (left r) f
 went_stops_all is js r s a f h w stops = subst (λ l. Stops (is ++ js) r.position l f) (sym w.over) (stops_past is js r.position a (left s) f h (subst (λ p. Stops js p (left s) f) w.position stops))
 
--- a number that has one value to take
-pub exact : (r s : Reader) (v a : ℕ) (p : Position) → a ≤ v → v ≤ a → Went r s (number v) p → Went r s (number a) p
-exact r s v a p l h w = let e : v ≡ a = omega arith in subst (λ x. Went r s (number x) p) e w
-
 pub stops_here : (i : Item) (is : List Item) (p : Position) (bs : List ℕ) (f : LoadFault) → Stopped i p bs f → Stops (i ∷ is) p bs f
 unfolding Stops
 stops_here i is p bs f h = inl h
@@ -154,18 +140,6 @@ pub record Matched (r s : Reader) (vs : List ℕ) (i : ℕ) : Type 0 where
   pub went : Went r s (numbers (take i vs)) (along r.position (11 * i))
   pub small : TenDigits (take i vs)
 
-pub matched_none : (r : Reader) (vs : List ℕ) → Matched r r vs 0
-matched_none r vs = record { went = went_none r _ (standing r.position 0 refl); small = tt }
-
-pub matched_more : (r s t : Reader) (vs : List ℕ) (i v : ℕ) → i < length vs → Matched r s vs i → v < 10 ^ 10 → get_or vs i 0 ≤ v → v ≤ get_or vs i 0 → Went s t (number v) (along s.position 11) → Matched r t vs (i + 1)
-matched_more r s t vs i v on matched small low high w =
-    let one = exact s t v (get_or vs i 0) _ low high (subst (λ p. Went s t (number v) (along p 11)) matched.went.position w) in
-    let whole = take_more vs i 0 on in
-    record {
-      went = rw whole (rw numbers_more (went_along r t _ r.position (11 * i) 11 (11 * (i + 1)) (omega arith) (went_more r s t _ _ _ _ matched.went one)));
-      small = rw whole (all_by_recursion_push (λ v. v < 10 ^ 10) (take i vs) (get_or vs i 0) matched.small (omega arith));
-    }
-
 pub matched_stops : (r s : Reader) (vs : List ℕ) (i : ℕ) (f : LoadFault) → i < length vs → Matched r s vs i → Stopped (ranged (get_or vs i 0) (get_or vs i 0)) s.position (left s) f → Stops (exact_items vs) r.position (left r) f
 matched_stops r s vs i f on matched stopped =
     let v = get_or vs i 0 in
@@ -175,21 +149,8 @@ matched_stops r s vs i f on matched stopped =
     subst (λ is. Stops is r.position (left r) f) (sym parts)
     (exact_past (take i vs) _ r s f matched.small (subst (λ n. Went r s (numbers (take i vs)) (along r.position (11 * n))) (sym long) matched.went) (stops_here _ _ _ _ _ stopped))
 
-pub matched_all : (r s : Reader) (vs : List ℕ) (i : ℕ) → i ≡ length vs → Matched r s vs i → TenDigits vs × Went r s (numbers vs) (along r.position (11 * length vs))
-matched_all r s vs i e matched =
-    let all : take i vs ≡ vs = take_all i vs (omega arith) in (
-      subst TenDigits all matched.small,
-      subst (λ n. Went r s (numbers vs) (along r.position (11 * n))) e (subst (λ l. Went r s (numbers l) (along r.position (11 * i))) all matched.went),
-    )
-
 -- a line's head, its numbers and its end
 module _ (k : ℕ) (r s t : Reader) (body : List ℕ) (m : ℕ) (head : Went r s (k ∷ []) (along r.position 1)) (then : Went s t body (along s.position m)) where
-  same_line : t.position.line ≡ r.position.line
-  same_line = ap (λ p. p.line) then.position ∙ ap (λ p. p.line) head.position
-
-  pub line_went : (u : Reader) → Went t u (10 ∷ []) (after close t.position) → Went r u (k ∷ (body ++ 10 ∷ [])) (after close r.position)
-  line_went u last = went_more r s u _ _ _ _ head (went_more s t u _ _ _ _ then (subst (λ n. Went t u (10 ∷ []) (record { line = n + 1; column = 1 })) same_line last))
-
   pub line_stops : (is : List Item) (f : LoadFault) → Goes is body → after_all is s.position ≡ along s.position m → Stopped close t.position (left t) f → Stops (first k ∷ (is ++ close ∷ [])) r.position (left r) f
   unfolding Stops
   line_stops is f goes place stopped =
@@ -198,9 +159,6 @@ module _ (k : ℕ) (r s t : Reader) (body : List ℕ) (m : ℕ) (head : Went r s
 
 pub went_on : (r s t : Reader) (a b : List ℕ) (m n k : ℕ) → m + n ≡ k → Went r s a (along r.position m) → Went s t b (along s.position n) → Went r t (a ++ b) (along r.position k)
 went_on r s t a b m n k e f g = went_along r t _ r.position m n k e (went_more r s t a b _ _ f (subst (λ p. Went s t b (along p n)) f.position g))
-
-pub went_nil : (r s : Reader) (a : List ℕ) (p : Position) → Went r s a p → Went r s (a ++ []) p
-went_nil r s a p w = subst (λ l. Went r s l p) (sym (append-nil a)) w
 
 pub head_stops : (k : ℕ) (is : List Item) (r s : Reader) (f : LoadFault) → Went r s (k ∷ []) (along r.position 1) → Stops is s.position (left s) f → Stops (first k ∷ is) r.position (left r) f
 head_stops k is r s f w stops = went_stops (first k) is r s _ f refl w stops

@@ -1,5 +1,5 @@
 -- Laws of sums. Assumes nothing.
-use Rattle.std.proofs.Common.{◌≡◌, ℕ, zero, suc, ◌+◌, ◌<◌, ◌≢◌, sym, refl, ap, ◌∙◌, ap₂, add-zero, add-suc, add-one, arith}
+use Rattle.std.proofs.Common.{◌≡◌, ℕ, zero, suc, ◌+◌, ◌<◌, ◌≢◌, sym, refl, ap, ◌∙◌, ap₂, add-zero, add-suc, arith}
 use native.Mathlib.Decide.{ℕ_discrete}
 use Rattle.field.specs.FiniteField.{FiniteField}
 use Rattle.field.proofs.Laws.{zero_plus, times_zero, swap_middle}
@@ -41,7 +41,3 @@ module _ {V : Type 0} (K : FiniteField V) where
   pub sum_split : (n m : ℕ) (f : ℕ → V) → sum K (n + m) f ≡ sum K n f ⊕ sum K m (λ i. f (n + i))
   sum_split n zero f = rw (add-zero, K.plus_zero)
   sum_split n (suc m) f = rw add-suc (ap (λ w. w ⊕ f (n + m)) (sum_split n m f) ∙ K.plus_assoc (sum K n f) (sum K m (λ i. f (n + i))) (f (n + m)))
-
-  -- one term more, as a loop adds it
-  pub sum_next : (n : ℕ) (f : ℕ → V) → sum K (n + 1) f ≡ sum K n f ⊕ f n
-  sum_next n f = rw add-one refl

@@ -8,7 +8,7 @@ use Rattle.text.specs.Rows.{row_line}
 use Rattle.faults.specs.declared.Position.{Position}
 use Rattle.faults.specs.declared.LoadFault.{LoadFault}
 use Rattle.columns.specs.declared.line.Due.{Due}
-use Rattle.columns.specs.declared.line.Due.TheVariants.{Matrix, End}
+use Rattle.columns.specs.declared.line.Due.TheVariants.{Matrix}
 use Rattle.reader.specs.declared.Reader.{Reader}
 use Rattle.reader.proofs.Runs.{went_more}
 use Rattle.text.proofs.Rows.{items_at, down, down_down}
@@ -40,9 +40,6 @@ pub row_due_next : (due then : Due) (j m : ℕ) → j < m → due ≡ row_due (m
 row_due_next due then j m h e t =
     let w : m - j - 1 ≡ m - (j + 1) = omega arith in
     t ∙ ap (next (m - j - 1)) (e ∙ row_due_some (m - j) (omega arith)) ∙ ap row_due w
-
-pub row_due_none : (due : Due) (j m : ℕ) → j ≡ m → due ≡ row_due (m - j) → due ≡ End
-row_due_none due j m h e = let w : m - j ≡ 0 = omega arith in e ∙ ap row_due w
 
 pub body_went : (n m : ℕ) (r s t u x y : Reader) (start rows end : List ℕ) → Went r s (line 83 start) (after close r.position) → Went s t (flat_map (row_line n rows) (range_with_len 0 m)) (down s.position m) → Went t u (line 69 end) (after close t.position) → Went u x (90 ∷ []) (along u.position 1) → Went x y (10 ∷ []) (after close x.position) → Went r y (body n m start rows end) (down r.position (3 + m))
 body_went n m r s t u x y start rows end one two three four five =

@@ -3,7 +3,7 @@ use Rattle.std.proofs.Common.{◌≡◌, ℕ, zero, suc, ◌+◌, ◌-◌, ◌*�
 use native.Mathlib.Nat.{mod-le}
 use borrow.Rule.Slice.PartMut.{put_mid}
 use Rattle.std.specs.List.{range_with_len, flat_map, AllByRecursion as All}
-use Rattle.std.proofs.lemmas.List.{drop-take, length-take, length-drop, take_all}
+use Rattle.std.proofs.lemmas.List.{drop-take, length-take, length-drop}
 use Rattle.std.proofs.lemmas.Slice.{take-put_mid_below, take-put_mid}
 use Rattle.std.proofs.ByRecursion.{All-append, All-take, All-drop}
 use Rattle.columns.specs.Lines.{line}
@@ -112,11 +112,6 @@ module _ (n high : ℕ) (small : high < 10 ^ 10) where
   lined_stops r s codes j m f e h lined stops =
       subst (λ is. Stops is r.position (left r) f) (sym (items_split j m h))
       (went_stops_all _ _ r s _ f lined.goes (subst (Went r s _) (sym (after_lines 0 j r.position e)) lined.went) (stops_front _ _ _ _ _ stops))
-
-pub lined_all : (r s : Reader) (n high m : ℕ) (codes : List ℕ) (j : ℕ) → j ≡ m → length codes ≡ m * n → Lined r s n high codes j → Went r s (flat_map (row_line n codes) (range_with_len 0 m)) (down r.position m) × All (λ v. v ≤ high) codes
-lined_all r s n high m codes j e long lined =
-    let l = subst (Lined r s n high codes) e lined in
-    (l.went, subst (All (λ v. v ≤ high)) (take_all (m * n) codes (omega arith)) l.below)
 
 -- a line that is read as one of the row's length and first byte
 pub part_stops : (b j n m high : ℕ) (p : Position) (bs : List ℕ) (f : LoadFault) → b ≡ 77 → m ≡ n → Stops (line_items b (ranged (j / n + 1) (j / n + 1) ∷ ranged (j % n + 1) (j % n + 1) ∷ replicate m (ranged 0 high))) p bs f → Stops (items_at high n j) p bs f
