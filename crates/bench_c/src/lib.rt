@@ -22,6 +22,7 @@ fn read_and_write<F: Field>(memory: &mut [F], text: &[u8], out: &mut [u8]) -> us
     let Ok(shape) = read_table(text, memory) else {
         return 0;
     };
+    // 0 and no `Option`: a C caller is told a count, and no text has 0 bytes.
     if out.len() < text_size(shape) {
         return 0;
     }

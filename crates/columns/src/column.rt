@@ -43,7 +43,7 @@ pub fn put_number(columns: &mut [u8], value: u64)
 {
     let mut rest = value;
     // backwards by an index: an adapter of `iter_mut` loses the bytes, and from the front each column costs a division by
-    // a power of ten, six times as long
+    // a power of ten, four to six times as long
     for i in (0..11).rev() {
         columns[i] = if rest == 0 && i < 10 {
             b' '

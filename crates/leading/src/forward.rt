@@ -31,7 +31,8 @@ fn see_row<F: Field>(row: &[F], view: &View<'_, F>, seen: &mut [F])
     clear_row(coefficients);
 }
 
-// Writes the row of word i followed by a letter behind the rows of `count` words, and to `seen` what the view shows of it.
+// Writes the row of word i followed by a letter behind the rows of `count` words, and to `seen` what the view shows of it. The
+// count stands beside the rows, which lie 16 elements apart in work memory.
 fn next_row<F: Field>(
     rows: &mut [F],
     count: usize,
@@ -102,13 +103,14 @@ fn try_letters<F: Field>(
     requires due { Trying F.field F.value view.now i 1 pivots.old.items rows.old tracked.old coefficients.old }
     ensures all_tried { Trying F.field F.value view.now i (view.now.table.shape.letters + 1) pivots.new.items rows.new tracked.new coefficients.new }
 {
-    // A letter is its number.
+    // By number: letters lie in no collection.
     for letter in 1..=view.table.letters() {
         try_letter(rows, tracked, coefficients, pivots, i, letter, view);
     }
 }
 
-// Tries each leading word followed by each letter, those too that are found on the way.
+// Tries each leading word followed by each letter, those too that are found on the way. Not one with the backward pass: there a
+// letter comes before a word, nothing is tracked, and columns are kept for rows.
 fn follow_words<F: Field>(
     rows: &mut [F],
     tracked: &mut [F],

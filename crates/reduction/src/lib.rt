@@ -25,7 +25,8 @@ fn reduce_into<F: Field>(form: &mut [F], rest: &mut [F], table: TableRef<'_, F>)
     ensures reduced_form { (behind : List F) → Reduced F.field table.entry.shape.letters (weight F.field (table_of F.field F.value table.entry)) (table_at F.field F.value (form.new ++ behind) 0 result table.entry.shape.letters) }
     ensures no_more_states { result ≤ table.entry.shape.states }
 {
-    // What is found for at most 16 states takes up to 17 vectors of its kind: the last is the one being tried.
+    // What is found for at most 16 states takes up to 17 vectors of its kind, since the last is the one being tried, and the
+    // coefficients of up to 16 words.
     let (columns, rest) = rest.split_at_mut(512);
     let (rows, rest) = rest.split_at_mut(512);
     let (tracked, rest) = rest.split_at_mut(1024);

@@ -89,6 +89,7 @@ pub fn tell<F: Field>(
     ensures reports { Reports F.field first.now second.now out.old result out.new }
     ensures at_most { result ≤ 387 }
 {
+    // 0 and no `Option`: a C caller is told a count, and no line has 0 bytes.
     let Some(line) = out.first_chunk_mut::<LONGEST>() else {
         return 0;
     };

@@ -17,6 +17,7 @@ use field::Field;
 
 impl Directory {
     /// Makes one call.
+    // An enum and its match: closures for the calls would each have to be told in the promise.
     pub fn make<F: Field>(
         &mut self,
         shelf: &mut [F],

@@ -49,13 +49,14 @@ fn try_columns<F: Field>(
     ensures all_tried { ColumnDue F.field F.value (table_of F.field F.value table.entry) i (table.entry.shape.letters + 1) pivots.new.items columns.new echelon.new }
     ensures word_found { i < length pivots.new.items }
 {
-    // A letter is its number.
+    // By number: letters lie in no collection.
     for letter in 1..=table.letters() {
         try_column(columns, echelon, pivots, i, letter, table);
     }
 }
 
-// Tries the column of each word with each letter before it, those too that are found on the way.
+// Tries the column of each word with each letter before it, those too that are found on the way. Not one with the forward pass,
+// which tracks of what each row is made, and looks at rows through these columns.
 fn close_columns<F: Field>(
     columns: &mut [F],
     echelon: &mut [F],

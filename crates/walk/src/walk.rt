@@ -65,7 +65,7 @@ fn try_letters<F: Field>(
         (λ _. Ready F.field F.value (left_table F.field F.value pair.entry) (right_table F.field F.value pair.entry) i (pair.entry.left.shape.letters + 1) walk.new rows.new echelon.new)
         (λ f. FoundDifference F.field (left_table F.field F.value pair.entry) (right_table F.field F.value pair.entry) walk.new f) }
 {
-    // A letter is its number.
+    // By number: letters lie in no collection.
     for letter in 1..=pair.left.letters() {
         // a cast, since a failure of `try_from` cannot come: there are at most six letters
         let link = Link {
