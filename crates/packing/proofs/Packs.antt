@@ -22,7 +22,8 @@ use Rattle.book.specs.declared.verdict.Verdict.{Verdict}
 use Rattle.book.specs.declared.outcome.Answer.{Answer}
 use Rattle.book.specs.declared.outcome.Answer.TheVariants.{Done, Code, Told, Count}
 use Rattle.book.proofs.Places.{at_same, at_other, length_with}
-use Rattle.book.proofs.Blocks.{fits, same_sym, same_trans, same_by_values}
+use Rattle.text.proofs.Limits.{block_fits}
+use Rattle.book.proofs.Blocks.{same_sym, same_trans, same_by_values}
 use Rattle.shelf.specs.Views.{entry_of, shelf_of, state}
 use Rattle.shelf.specs.declared.entry.Entry.{Entry as EntryCode}
 use Rattle.packing.specs.Packing.{Reduction, Packs, Hindered}
@@ -109,7 +110,7 @@ module _ {V : Type 0} (K : FiniteField V) {F : Type 0} (value : F → V) (text :
 
     -- reducing leaves the table of the text in place
     stays : SameTable (table_at K value mem₂ 0 T₀.states T₀.letters) (table_at K value mem₁ 0 T₀.states T₀.letters)
-    stays = same_by_values K value mem₂ mem₁ 0 T₀.states T₀.letters (λ i low high. frame_below K value reducing.numbers.frame i (omega (arith, fits T₀.states T₀.letters sized)))
+    stays = same_by_values K value mem₂ mem₁ 0 T₀.states T₀.letters (λ i low high. frame_below K value reducing.numbers.frame i (omega (arith, block_fits T₀.states T₀.letters sized)))
 
     TSame : SameTable T T₀
     TSame = subst (λ e. SameTable (table_at K value mem₂ 0 (states_of e) (letters_of e)) T₀) (sym entry_1_still)

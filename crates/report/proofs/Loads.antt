@@ -14,7 +14,8 @@ use Rattle.book.specs.Doing.{Makes}
 use Rattle.book.specs.declared.refusal.Refusal.{Refusal}
 use Rattle.book.specs.declared.refusal.Refusal.TheVariants.{LettersDiffer, Unreadable}
 use Rattle.book.proofs.Places.{at_same, at_other, length_with}
-use Rattle.book.proofs.Blocks.{fits, same_trans, same_by_values}
+use Rattle.text.proofs.Limits.{block_fits}
+use Rattle.book.proofs.Blocks.{same_trans, same_by_values}
 
 abbrev IsFilled : Entry → Type 0
 IsFilled empty = ⊥
@@ -68,7 +69,7 @@ module _ {V : Type 0} (K : FiniteField V) {F : Type 0} (value : F → V) where
       right = ap (λ z. at_place empty z 2) two.entries ∙ at_same empty u.shelf.entries 2 (filled Q.states Q.letters) (omega arith, omega arith) eight_then
 
       stays : SameTable (table_at K value mem 0 R.states R.letters) (table_at K value old 0 R.states R.letters)
-      stays = same_by_values K value mem old 0 R.states R.letters (λ i low high. frame_below K value two.numbers.frame i (omega (arith, fits R.states R.letters sized)) ∙ ap (λ z. at K value z.memory i) same)
+      stays = same_by_values K value mem old 0 R.states R.letters (λ i low high. frame_below K value two.numbers.frame i (omega (arith, block_fits R.states R.letters sized)) ∙ ap (λ z. at K value z.memory i) same)
 
   -- with room and both places filled, a compare is refused for the letter counts alone
   pub compare_refused : (s : State F) (r : Refusal) (R Q : Table V) → Loaded s.shelf R Q → 12544 ≤ length s.shelf.memory → 8192 ≤ s.lent.work → Meets K s (compare 1 2) r → (r ≡ LettersDiffer) × (R.letters ≢ Q.letters)
