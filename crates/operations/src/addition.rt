@@ -6,10 +6,10 @@ ghost use Rattle.rows.specs.Layout.{table_size, table_at};
 ghost use Rattle.rows.specs.Seen.{table_of, RowOf, HoldsTable};
 ghost use Rattle.rows.specs.Tables.{Weighs};
 
-use crate::parts::write_table;
 use field::Field;
 use rows::row::clear_row;
 use rows::table::{Shape, TableRef};
+use rows::table_parts::write_table;
 
 // Two rows side by side.
 fn write_beside<F: Field>(left: &[F], right: &[F], to: &mut [F])

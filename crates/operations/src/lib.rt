@@ -5,5 +5,4 @@
 pub mod addition;
 pub mod adjusting;
 pub mod multiplication;
-mod parts;
 pub mod turning;

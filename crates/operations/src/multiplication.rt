@@ -7,9 +7,9 @@ ghost use Rattle.rows.specs.Layout.{table_size, table_at};
 ghost use Rattle.rows.specs.Seen.{table_of, RowOf, HoldsTable};
 ghost use Rattle.rows.specs.Tables.{Weighs};
 
-use crate::parts::write_table;
 use field::Field;
 use rows::table::{Shape, TableRef};
+use rows::table_parts::write_table;
 
 // The products of the entries of two rows, those of the first entry of the first row first.
 fn write_products<F: Field>(left: &[F], right: &[F], to: &mut [F])

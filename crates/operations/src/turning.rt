@@ -6,9 +6,9 @@ ghost use Rattle.rows.specs.Layout.{table_size, table_at};
 ghost use Rattle.rows.specs.Seen.{table_of, RowOf, HoldsTable};
 ghost use Rattle.rows.specs.Tables.{Weighs};
 
-use crate::parts::write_table;
 use field::Field;
 use rows::table::TableRef;
+use rows::table_parts::write_table;
 
 // A row of a letter's mirrored matrix: a column of its matrix.
 fn write_turned_row<F: Field>(table: TableRef<'_, F>, letter: usize, row: usize, to: &mut [F])

@@ -3,8 +3,8 @@
 #![tactic(auto)]
 
 ghost use Rattle.std.specs.Prelude.{◌≡◌, ◌+◌, ◌≤◌, length};
-ghost use Rattle.operations.specs.Rows.{TakesPart};
 ghost use Rattle.rows.specs.Layout.{table_size};
+ghost use Rattle.rows.specs.Writing.{TakesPart};
 
 #[cfg(test)]
 mod tests {

@@ -8,3 +8,4 @@ pub mod Splits
 pub mod Parts
 pub mod Shapes
 pub mod Held
+pub mod Writing

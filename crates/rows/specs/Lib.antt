@@ -4,3 +4,4 @@ pub mod Arithmetic
 pub mod Tables
 pub mod Seen
 pub mod Weighing
+pub mod Writing

@@ -3,7 +3,7 @@ use Rattle.series.specs.Operations.{sum_table}
 use Rattle.series.proofs.Operations.{sum_weight}
 use Rattle.rows.specs.Seen.{table_of}
 use Rattle.rows.proofs.Held.{row_beside, row_copied, held_weighs}
-use Rattle.operations.proofs.Rows.{held_by_calls}
+use Rattle.rows.proofs.Writing.{held_by_calls}
 use Rattle.operations.proofs.addition.sum.Goals as goal
 
 pub returns : goal.returns

@@ -5,7 +5,7 @@ use Rattle.rows.specs.Memory.{at}
 use Rattle.rows.specs.Seen.{table_of, RowOf}
 use Rattle.rows.proofs.Held.{held_weighs}
 use Rattle.operations.proofs.Products.{products_of}
-use Rattle.operations.proofs.Rows.{held_by_calls}
+use Rattle.rows.proofs.Writing.{held_by_calls}
 use Rattle.operations.proofs.multiplication.multiply.Goals as goal
 
 pub returns : goal.returns

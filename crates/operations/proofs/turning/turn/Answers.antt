@@ -3,7 +3,7 @@ use Rattle.series.specs.Operations.{turned_table}
 use Rattle.series.proofs.Operations.{turned_weight}
 use Rattle.rows.specs.Seen.{table_of}
 use Rattle.rows.proofs.Held.{row_copied, held_weighs}
-use Rattle.operations.proofs.Rows.{held_by_calls}
+use Rattle.rows.proofs.Writing.{held_by_calls}
 use Rattle.operations.proofs.turning.turn.Goals as goal
 
 pub returns : goal.returns

@@ -1,6 +1,6 @@
 use Rattle.std.proofs.Common.{arith, mul_assoc}
-use Rattle.operations.proofs.Rows.{rows_moved, part_moved}
-use Rattle.operations.proofs.parts.write_table.Goals as goal
+use Rattle.rows.proofs.Writing.{rows_moved, part_moved}
+use Rattle.rows.proofs.table_parts.write_table.Goals as goal
 
 pub returns-clause-rows_written : goal.returns-clause-rows_written
 returns-clause-rows_written g c =

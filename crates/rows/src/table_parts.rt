@@ -1,9 +1,9 @@
 //! A table written part by part: its start row, the rows of its matrices, and its end column.
 ghost use Rattle.std.specs.Prelude.{◌≡◌, ◌*◌, length};
 ghost use Rattle.rows.specs.Layout.{table_size, end_offset};
-ghost use Rattle.operations.specs.Rows.{TakesPart, WritesPart, TakesRows, WritesRows};
+ghost use Rattle.rows.specs.Writing.{TakesPart, WritesPart, TakesRows, WritesRows};
 
-use rows::table::Shape;
+use crate::table::Shape;
 
 /// Writes a table of a shape into a slice that is exactly as long: `write_start` writes the start row, `write_row` each
 /// row of each matrix, given its letter and its number from 0, and `write_end` the end column.

@@ -1,8 +1,8 @@
 use Rattle.std.proofs.Common.{arith, ◌*◌, ◌+◌, ◌≤◌, length, ◌∙◌}
 use Rattle.rows.proofs.Layouts.{matrix_row}
 use Rattle.rows.proofs.Slices.{length_part}
-use Rattle.operations.proofs.Rows.{progress_more, progress_all}
-use Rattle.operations.proofs.parts.write_rows.Goals as goal
+use Rattle.rows.proofs.Writing.{progress_more, progress_all}
+use Rattle.rows.proofs.table_parts.write_rows.Goals as goal
 
 pub slice_bounds-write_row-end : goal.slice_bounds-write_row-end
 slice_bounds-write_row-end g c =

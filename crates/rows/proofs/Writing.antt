@@ -11,7 +11,7 @@ use Rattle.field.specs.FiniteField.{FiniteField}
 use Rattle.series.specs.Tables.{Table}
 use Rattle.rows.specs.Layout.{table_size, end_offset}
 use Rattle.rows.specs.Seen.{RowOf, HoldsTable}
-use Rattle.operations.specs.Rows.{WritesPart, WritesRow, WritesRows}
+use Rattle.rows.specs.Writing.{WritesPart, WritesRow, WritesRows}
 
 module _ {W X : Type 0} (g : Shared W (ℕ × (ℕ × (MutBor (List X) × Unit {0}))) (Unit {0} × (MutBor (List X) × Unit {0}))) (w : W) (n : ℕ) where
   -- the rows below r are written
