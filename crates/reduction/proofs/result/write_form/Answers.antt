@@ -1,32 +1,45 @@
-use Rattle.std.proofs.Common.{◌≡◌, ◌*◌, length, refl, ap, ◌∙◌, subst, arith}
+use Rattle.std.proofs.Common.{rules, length, refl, ap, ◌∙◌}
 use Rattle.series.specs.Tables.{dot}
+use Rattle.series.proofs.Weights.{dot_comm}
 use Rattle.rows.specs.Memory.{at, row_at}
+use Rattle.rows.specs.Layout.{table_size}
 use Rattle.rows.specs.Seen.{table_of, RowOf}
 use Rattle.rows.proofs.Sums.{dot_same}
-use Rattle.spanning.specs.Places.{vector_at}
+use Rattle.rows.proofs.Held.{row_long, row_same}
+use Rattle.rows.proofs.Writing.{held_by_calls}
+use Rattle.spanning.specs.Places.{vector_at, coefficients_at}
+use Rattle.spanning.specs.Views.{columns_of}
 use Rattle.leading.specs.Units.{unit}
-use Rattle.reduction.proofs.Forms.{form_written}
+use Rattle.reduction.specs.Result.{form_of}
 use Rattle.reduction.proofs.result.write_form.Goals as goal
 
 pub returns : goal.returns
 returns g c =
     let K = g.F.Field.field in let v = g.F.Field.value in
-    let a = c.args in
-    let n = a.shape.states in
-    let T = table_of K v a.table in
-    let first = c.split_at_mut-start in
-    let second = c.split_at_mut-matrices in
-    let letters : a.shape.letters ≡ T.letters = c.requires.same_letters in
-    let long : length second.result.0.now ≡ T.letters * (n * n) = second.ensures.front_len ∙ ap (λ k. k * (n * n)) letters in
-    let start : RowOf K v n (unit K 0) c.unit_row.new.to = subst (λ m. RowOf K v m (unit K 0) c.unit_row.new.to) first.ensures.front_len c.unit_row.ensures.unit_written in
-    let w = c.write_end.ensures.weights_written in
-    let column = c.end.ensures.end_column in
-    let rest : length second.result.1.now ≡ n = omega (arith, long) in
-    let weights : RowOf K v n (λ i. dot K T.states (row_at K v a.rows.now (vector_at i)) T.end) c.write_end.new.to = record {
-      len = w.len ∙ rest;
-      same = λ i l. w.same i (omega (arith, rest)) ∙ ap (λ m. dot K m (row_at K v a.rows.now (vector_at i)) (at K v c.end.result.now)) column.len ∙ dot_same K T.states (λ j h. refl) column.same;
-    } in
-    record {
-      form_written = form_written K v n T a.rows.now a.coefficients.now c.unit_row.new.to c.write_matrices.new.matrices c.write_end.new.to start (c.write_matrices.auto.matrices ∙ long)
-          (λ b h l. c.write_matrices.ensures.matrices_written b h (omega (arith, letters))) weights;
-    }
+    let T = table_of K v c.args.table in
+    let n = c.args.shape.states in
+    let rs = c.args.rows.now in
+    let ks = c.args.coefficients.now in
+    let column = c.end-column.result.now in
+    let seen = c.end-column.ensures.end_column in
+    let done = c.write_table.ensures in
+    let start = done.start_written in
+    let end = done.end_written in
+    let starts = start.call in
+    let ends = end.call in
+    let first : RowOf K v (length start.argument.now) (unit K 0) start.after_call.now = search rules in
+    let last : RowOf K v (length end.argument.now) (λ i. dot K (length column) (at K v column) (columns_of K v rs i)) end.after_call.now = search rules in
+    let made =
+    held_by_calls K v (form_of K v T n rs ks) start done.rows_written end refl c.requires.same_letters (c.write_table.auto.to ∙ c.requires.whole ∙ ap (table_size n) c.requires.same_letters)
+    (row_long K v first start.as_long)
+    (λ a i low high l.
+    let row = done.rows_written a i low high l in
+    let call = row.call in
+    let written : RowOf K v (length row.argument.now) (row_at K v ks (coefficients_at i a)) row.after_call.now = search rules in
+    row_long K v written row.as_long)
+    (row_same K v (row_long K v last end.as_long)
+    (λ i l.
+    dot_comm K (length column) (at K v column) (columns_of K v rs i)
+    ∙ ap (λ m. dot K m (row_at K v rs (vector_at i)) (at K v column)) seen.len
+    ∙ dot_same K T.states (λ j h. refl) seen.same)) in
+    record { form_written = made.same }
