@@ -4,7 +4,7 @@ ghost use Rattle.book.specs.Refusals.{refusal_number, refusal_position};
 ghost use Rattle.book.specs.Reasons.{refusal_reason};
 ghost use Rattle.book.specs.declared.refusal.Refusal.TheVariants.{LetterOutside as LetterRefused, Unreadable};
 
-use faults::LoadFault;
+use faults::{LoadFault, Position};
 use rows::weight::LetterOutside;
 use std::fmt;
 
@@ -52,7 +52,7 @@ impl fmt::Display for Refusal {
 
 impl Refusal {
     /// The refusal's number, 1 to 15.
-    // The numbers are the product's: the report, the C interface and the programs tell them.
+    // The numbers are the product's: the report, the C interface and the programs tell them. A method, as for faults.
     pub fn number(&self) -> u8
         ensures numbered { result ≡ refusal_number self.now }
     {
@@ -70,14 +70,13 @@ impl Refusal {
         }
     }
 
-    /// Line and column of an unreadable text's fault, both from 1; 0 and 0 where no text is at fault.
-    // No `Option`: the line for C tells two zeros there.
-    pub fn position(&self) -> (u32, u32)
+    /// Where the fault of an unreadable text is; no other refusal tells a position.
+    pub fn position(&self) -> Option<Position>
         ensures told { result ≡ refusal_position self.now }
     {
         match self {
-            Refusal::Unreadable(fault) => fault.position(),
-            _ => (0, 0),
+            Refusal::Unreadable(fault) => Some(fault.position()),
+            _ => None,
         }
     }
 

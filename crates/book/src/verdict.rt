@@ -11,6 +11,7 @@ pub enum Kind {
 
 impl Kind {
     /// The kind's number, 0 or 1.
+    // A method, as a refusal's: its name says that it is the number of the record's form, which has a number for the kind.
     pub fn number(self) -> u8
         ensures numbered { result ≡ kind_number self }
     {

@@ -1,4 +1,4 @@
--- The number of each fault, and the line and column that it tells. Assumes nothing.
+-- The number of each fault, and the position that it tells. Assumes nothing.
 use Rattle.std.specs.Prelude.{ℕ}
 use Rattle.faults.specs.declared.Position.{Position}
 use Rattle.faults.specs.declared.ColumnFault.{ColumnFault}
@@ -7,26 +7,22 @@ use Rattle.faults.specs.declared.LineFault.TheVariants.{Column, Ends, Unexpected
 use Rattle.faults.specs.declared.LoadFault.{LoadFault}
 use Rattle.faults.specs.declared.LoadFault.TheVariants.{Line, Value, Beyond}
 
--- line and column, each from 1
-abbrev pub told : Position → ℕ × ℕ
-told p = (p.line, p.column)
-
 -- the position that a column's fault tells
-abbrev pub column_position : ColumnFault → ℕ × ℕ
-column_position f = told f.position
+abbrev pub column_position : ColumnFault → Position
+column_position f = f.position
 
 -- that a line's fault tells
-abbrev pub line_position : LineFault → ℕ × ℕ
+abbrev pub line_position : LineFault → Position
 line_position (Column f) = column_position f
-line_position (Ends p) = told p
-line_position (Unexpected p) = told p
-line_position (Unended p) = told p
+line_position (Ends p) = p
+line_position (Unexpected p) = p
+line_position (Unended p) = p
 
 -- that a text's fault tells
-abbrev pub load_position : LoadFault → ℕ × ℕ
+abbrev pub load_position : LoadFault → Position
 load_position (Line f) = line_position f
-load_position (Value p) = told p
-load_position (Beyond p) = told p
+load_position (Value p) = p
+load_position (Beyond p) = p
 
 -- 12: a byte cannot stand in its column
 abbrev pub column_refusal : ColumnFault → ℕ

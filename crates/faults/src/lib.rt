@@ -5,7 +5,7 @@ ghost use Rattle.std.specs.Prelude.{◌≡◌, Some};
 ghost use Rattle.faults.specs.declared.LineFault.TheVariants.{Column};
 ghost use Rattle.faults.specs.declared.LoadFault.TheVariants.{Line};
 ghost use Rattle.faults.specs.Refusals.{column_position, line_position, load_position, column_refusal, line_refusal, load_refusal};
-ghost use Rattle.faults.specs.Reasons.{column_reason, line_reason, load_reason};
+ghost use Rattle.faults.specs.Reasons.{column_reason, line_reason, load_reason, position_text};
 
 use std::fmt;
 
@@ -14,6 +14,14 @@ use std::fmt;
 pub struct Position {
     pub line: u32,
     pub column: u32,
+}
+
+impl fmt::Display for Position {
+    ghost output = { λ at. Some (position_text at) };
+
+    fn fmt<W: fmt::Write>(&self, f: &mut fmt::Formatter<W>) -> fmt::Result {
+        write!(f, "line {}, column {}", self.line, self.column)
+    }
 }
 
 /// A byte that cannot stand in its column.
@@ -82,14 +90,15 @@ impl fmt::Display for LoadFault {
 }
 
 impl ColumnFault {
-    /// Line and column of the byte.
-    pub fn position(&self) -> (u32, u32)
+    /// Where the byte stands.
+    pub fn position(&self) -> Position
         ensures told { result ≡ column_position self.now }
     {
-        (self.position.line, self.position.column)
+        self.position
     }
 
     /// The refusal's number.
+    // A method here and in the types below, and no `From`: its name says which number of a fault it is.
     pub fn refusal(&self) -> u8
         ensures numbered { result ≡ column_refusal self.now }
     {
@@ -105,15 +114,13 @@ impl ColumnFault {
 }
 
 impl LineFault {
-    /// Line and column of the fault.
-    pub fn position(&self) -> (u32, u32)
+    /// Where the fault is.
+    pub fn position(&self) -> Position
         ensures told { result ≡ line_position self.now }
     {
         match self {
             LineFault::Column(fault) => fault.position(),
-            LineFault::Ends(at) | LineFault::Unexpected(at) | LineFault::Unended(at) => {
-                (at.line, at.column)
-            }
+            LineFault::Ends(at) | LineFault::Unexpected(at) | LineFault::Unended(at) => *at,
         }
     }
 
@@ -143,13 +150,13 @@ impl LineFault {
 }
 
 impl LoadFault {
-    /// Line and column of the fault.
-    pub fn position(&self) -> (u32, u32)
+    /// Where the fault is.
+    pub fn position(&self) -> Position
         ensures told { result ≡ load_position self.now }
     {
         match self {
             LoadFault::Line(fault) => fault.position(),
-            LoadFault::Value(at) | LoadFault::Beyond(at) => (at.line, at.column),
+            LoadFault::Value(at) | LoadFault::Beyond(at) => *at,
         }
     }
 

@@ -12,7 +12,7 @@ use book::verdict::{Kind, Verdict};
 use field::Field;
 
 /// The longest line: a first byte, four numbers, 31 letters and byte 10.
-const LONGEST: usize = 387;
+pub const LONGEST: usize = 387;
 
 // Writes a line to the front of the output: how many bytes it has. The output is the C caller's, who is told the count.
 fn put_in_front(out: &mut [u8; LONGEST], first: u8, values: &[u64], letters: &[u8]) -> usize
