@@ -1,5 +1,5 @@
 //! The sum of two tables.
-ghost use Rattle.std.specs.Prelude.{◌≡◌, ◌+◌, ◌<◌, ◌≤◌, ◌++◌, length};
+ghost use Rattle.std.specs.Prelude.{◌≡◌, ◌+◌, ◌<◌, ◌≤◌, length};
 ghost use Rattle.series.specs.Tables.{weight};
 ghost use Rattle.series.specs.Operations.{sum_table};
 ghost use Rattle.rows.specs.Layout.{table_size, table_at};
@@ -7,19 +7,9 @@ ghost use Rattle.rows.specs.Seen.{table_of, RowOf, HoldsTable};
 ghost use Rattle.rows.specs.Tables.{Weighs};
 
 use field::Field;
-use rows::row::clear_row;
+use rows::row::{clear_row, write_beside};
 use rows::table::{Shape, TableRef};
 use rows::table_parts::write_table;
-
-// Two rows side by side.
-fn write_beside<F: Field>(left: &[F], right: &[F], to: &mut [F])
-    requires as_long { length to.old ≡ length left.now + length right.now }
-    ensures rows_beside { to.new ≡ left.now ++ right.now }
-{
-    let (front, back) = to.split_at_mut(left.len());
-    front.copy_from_slice(left);
-    back.copy_from_slice(right);
-}
 
 // A row of a letter's matrix of the sum: a row of one of the two tables, with zeros beside it.
 fn write_sum_row<F: Field>(

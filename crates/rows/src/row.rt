@@ -1,5 +1,5 @@
 //! Arithmetic on rows: each row, column and matrix is a slice of its own.
-ghost use Rattle.std.specs.Prelude.{◌≡◌, ℕ, ◌+◌, ◌*◌, ◌<◌, length, MatchOption};
+ghost use Rattle.std.specs.Prelude.{◌≡◌, ℕ, ◌+◌, ◌*◌, ◌<◌, ◌++◌, length, MatchOption};
 ghost use Rattle.series.specs.Tables.{dot as product, move, Agree};
 ghost use Rattle.rows.specs.Memory.{at, square_at};
 ghost use Rattle.rows.specs.Seen.{RowOf};
@@ -41,6 +41,16 @@ pub fn matrix_times_column<F: Field>(matrix: &[F], column: &[F], to: &mut [F])
     for (i, x) in to.iter_mut().enumerate() {
         *x = dot(&matrix[i * n..i * n + n], column, 0, 1);
     }
+}
+
+/// Writes to `to` two rows side by side.
+pub fn write_beside<F: Field>(left: &[F], right: &[F], to: &mut [F])
+    requires as_long { length to.old ≡ length left.now + length right.now }
+    ensures rows_beside { to.new ≡ left.now ++ right.now }
+{
+    let (front, back) = to.split_at_mut(left.len());
+    front.copy_from_slice(left);
+    back.copy_from_slice(right);
 }
 
 /// Takes `factor` times another row from the row.

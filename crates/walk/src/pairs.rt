@@ -2,7 +2,7 @@
 ghost use Rattle.std.specs.Prelude.{◌≡◌, ◌+◌, ◌≤◌, [], ◌∷◌, ◌++◌, length, MatchOption, ⊤};
 
 use field::Field;
-use rows::row::{dot, row_times_matrix};
+use rows::row::{dot, row_times_matrix, write_beside};
 use rows::table::TableRef;
 use std::alloc::AllocError;
 
@@ -53,9 +53,7 @@ impl<'a, F: Field> Pair<'a, F> {
         requires as_long { length to.old ≡ width self }
         ensures pair_row_of_empty_word { RowOf F.field F.value (width self.entry) (pair F.field (left_table F.field F.value self.entry) (right_table F.field F.value self.entry) []) to.new }
     {
-        let (left, right) = to.split_at_mut(self.left.states());
-        left.copy_from_slice(self.left.start());
-        right.copy_from_slice(self.right.start());
+        write_beside(self.left.start(), self.right.start(), to);
     }
 
     /// Writes to `to`, from the pair row of a word, that of the word and one letter more.
