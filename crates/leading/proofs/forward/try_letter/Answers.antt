@@ -32,21 +32,6 @@ track_row-requires g c =
       no_coefficients = next.no_coefficients;
     }
 
-pub negate_row-requires : goal.negate_row-requires
-negate_row-requires g c =
-    let a = c.args in
-    let due = c.requires.due in
-    let few = due.few in
-    let inside = due.inside in
-    let split = c.split_at_mut-basis in
-    let from = coefficients_at a.i a.letter in
-    let wide = length-take-le 32 split.result.1.now (omega (arith, due.held.room.1.0, a.view.now.few)) in
-    let seen = c.next_row.auto.seen in
-    let row = c.track_row.auto.row in
-    let to = length_part from (from + 16) a.coefficients.now (omega arith) (omega (arith, due.held.room.1.1, a.view.now.few, a.view.now.table.shape.few_letters)) in
-    let coefficients = length_part 16 32 (c.track_row.new.row ++ drop 32 split.result.1.now) (omega arith) (omega (arith, length-append c.track_row.new.row (drop 32 split.result.1.now))) in
-    record { as_long = omega arith }
-
 pub returns-in-None : goal.returns-in-None
 returns-in-None g c =
     let a = c.args in

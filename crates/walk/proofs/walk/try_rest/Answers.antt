@@ -8,9 +8,3 @@ loop-i-preserved g c =
     let K = g.F.Field.field in let v = g.F.Field.value in
     let a = c.args in
     ready_passed K v (left_table K v a.pair) (right_table K v a.pair) c.loop-i.i c.try_letters.new.walk c.try_letters.new.rows c.try_letters.new.echelon c.in_ok-try_letters.ensures.past_letters_or_found
-
-pub try_letters-requires-clause-ready : goal.try_letters-requires-clause-ready
-try_letters-requires-clause-ready g c =
-    let K = g.F.Field.field in let v = g.F.Field.value in
-    let a = c.args in
-    passed_ready K v (left_table K v a.pair) (right_table K v a.pair) c.loop-i.i c.loop-i.walk c.loop-i.rows c.loop-i.echelon c.loop-i.invariant (omega arith)
