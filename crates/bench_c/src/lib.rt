@@ -10,7 +10,7 @@ ghost use Rattle.bench_c.specs.Rewriting.{Rewrites};
 
 use field::Field;
 use residue::Fermat;
-use rows::table::TableRef;
+use rows::table::{LARGEST, TableRef};
 use text::table::read_table;
 use writer::{text_size, write_table};
 
@@ -36,7 +36,7 @@ pub extern "C" fn rewrite(text: &[u8], out: &mut [u8]) -> usize
     ensures rewrites { Rewrites fermat text.now out.old result out.new }
 {
     let zero = Fermat::zero();
-    let mut memory = [zero; 1568];
+    let mut memory = [zero; LARGEST];
     read_and_write(&mut memory, text, out)
 }
 

@@ -42,8 +42,8 @@ pub fn put_number(columns: &mut [u8], value: u64)
     ensures written { columns.new ≡ number value }
 {
     let mut rest = value;
-    // backwards by an index: an adapter of `iter_mut` loses the bytes, and from the front each column costs a division by
-    // a power of ten, four to six times as long
+    // Backwards by an index: of what a loop over `iter_mut().rev()` wrote nothing is known, and from the front, with
+    // `enumerate`, each column would need its own power of ten, which is no plainer (and took six times as long).
     for i in (0..11).rev() {
         columns[i] = if rest == 0 && i < 10 {
             b' '

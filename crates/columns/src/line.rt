@@ -20,7 +20,7 @@ pub enum Kind {
 pub struct UnknownKind;
 
 /// The line that is due: of a kind, or none after the last.
-// No `Option<Kind>`: the product names two plain enums, the line due and the kind read, and `turn` is the match on both.
+// No `Option<Kind>`, which is no plainer: `turn` would answer one within another, and its match would have to name both `None`s.
 #[derive(Clone, Copy, Debug, PartialEq, Eq)]
 pub enum Due {
     Table,

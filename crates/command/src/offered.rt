@@ -68,7 +68,8 @@ pub trait OverField {
     // What can come of the step over a field with so many elements.
     ghost gives: { ℕ → Self → Self.Output → Type 0 };
 
-    // Where a step brings the shelf's memory, an array of elements, its size has to be one of a machine's; no caller shows it.
+    // Where a step brings the shelf's memory, an array of elements, its size has to be one of a machine's. A clause, since only
+    // here, where the field is chosen, is the size of an element known.
     fn over<F: Field>(self) -> Self::Output
         requires elements_fit { 12544 * type_size F.row < 2 ^ 63 }
         ensures taken { gives F.field.q self result };

@@ -32,7 +32,7 @@ fn see_row<F: Field>(row: &[F], view: &View<'_, F>, seen: &mut [F])
 }
 
 // Writes the row of word i followed by a letter behind the rows of `count` words, and to `seen` what the view shows of it. The
-// count stands beside the rows, which lie 16 elements apart in work memory.
+// count stands beside the rows, since their slice does not tell it: they lie 16 elements apart in work memory, with room behind.
 fn next_row<F: Field>(
     rows: &mut [F],
     count: usize,

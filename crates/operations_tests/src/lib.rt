@@ -21,15 +21,14 @@ mod tests {
     use std::process::Abort;
     use std::test::Fail;
 
-    // A table of two states and two letters, given by its codes.
-    const FIRST: [[u64; 12]; 3] = [
-        [1, 0, 0, 1, 1, 1, 1, 1, 0, 1, 1, 1],
-        [1, 2, 3, 4, 5, 6, 7, 65536, 9, 10, 11, 12],
-        [1, 2, 3, 4, 5, 6, 7, 255, 9, 10, 11, 12],
-    ];
-
-    // A table of one state and two letters.
-    const SECOND: [[u64; 4]; 3] = [[1, 1, 0, 1], [40000, 50000, 3, 60000], [83, 202, 3, 87]];
+    // What is tried over one field: a table of two states and one of one state, both of two letters, by their codes, the code
+    // of a factor, and the weights that are expected.
+    struct Case {
+        first: [u64; 12],
+        second: [u64; 4],
+        factor: u64,
+        expected: [[u64; 5]; 5],
+    }
 
     // Writes elements by their codes.
     fn put<F: Field>(rt: &impl Abort, memory: &mut [F], codes: &[u64]) -> Result<(), Fail> {
@@ -212,85 +211,93 @@ mod tests {
         shelf: &mut [F],
         work: &mut [F],
         scratch: &mut [F],
-        case: usize,
-        factor: u64,
-        expected: &[[u64; 5]; 5],
+        case: &Case,
     ) -> Result<(), Fail> {
-        assert!(rt; case < 3 && shelf.len() == 30 && scratch.len() == 8);
+        let expected = &case.expected;
+        assert!(rt; shelf.len() == 30 && scratch.len() == 8);
         mark(shelf);
-        put(rt, &mut shelf[2..6], &SECOND[case])?;
-        put(rt, &mut shelf[12..24], &FIRST[case])?;
-        let Some(factor) = F::from_code(factor) else {
+        put(rt, &mut shelf[2..6], &case.second)?;
+        put(rt, &mut shelf[12..24], &case.first)?;
+        let Some(factor) = F::from_code(case.factor) else {
             return Err(Fail::new("the factor is refused"));
         };
         let left = TableRef::at(shelf, 12, Shape::new(2, 2));
         let right = TableRef::at(shelf, 2, Shape::new(1, 2));
         check_operations(rt, left, right, factor, work, scratch, expected)?;
         check_turned_in_place(rt, shelf, work, scratch, expected[4])?;
-        check_around(rt, shelf, &SECOND[case])
+        check_around(rt, shelf, &case.second)
     }
 
     #[test]
     fn over_two_elements(rt: HostRuntime) -> Result<(), Fail> {
-        let expected = [
-            [0, 0, 0, 1, 1],
-            [1, 1, 0, 1, 1],
-            [1, 1, 0, 0, 0],
-            [0, 1, 1, 0, 0],
-            [1, 1, 0, 1, 1],
-        ];
+        let case = Case {
+            first: [1, 0, 0, 1, 1, 1, 1, 1, 0, 1, 1, 1],
+            second: [1, 1, 0, 1],
+            factor: 1,
+            expected: [
+                [0, 0, 0, 1, 1],
+                [1, 1, 0, 1, 1],
+                [1, 1, 0, 0, 0],
+                [0, 1, 1, 0, 0],
+                [1, 1, 0, 1, 1],
+            ],
+        };
         let zero = Bit::zero();
         check_case(
             &rt,
             &mut [zero; 30],
             &mut [zero; 64],
             &mut [zero; 8],
-            0,
-            1,
-            &expected,
+            &case,
         )
     }
 
     #[test]
     fn over_bytes(rt: HostRuntime) -> Result<(), Fail> {
-        let expected = [
-            [241, 100, 50, 29, 78],
-            [118, 189, 208, 125, 144],
-            [159, 240, 64, 183, 53],
-            [15, 193, 154, 181, 206],
-            [19, 51, 15, 193, 243],
-        ];
+        let case = Case {
+            first: [1, 2, 3, 4, 5, 6, 7, 255, 9, 10, 11, 12],
+            second: [83, 202, 3, 87],
+            factor: 131,
+            expected: [
+                [241, 100, 50, 29, 78],
+                [118, 189, 208, 125, 144],
+                [159, 240, 64, 183, 53],
+                [15, 193, 154, 181, 206],
+                [19, 51, 15, 193, 243],
+            ],
+        };
         let zero = Byte::zero();
         check_case(
             &rt,
             &mut [zero; 30],
             &mut [zero; 64],
             &mut [zero; 8],
-            2,
-            131,
-            &expected,
+            &case,
         )
     }
 
     // Residues, and the field in which several elements stand for one value, give the same codes.
     #[test]
     fn over_residues(rt: HostRuntime) -> Result<(), Fail> {
-        let expected = [
-            [35095, 16659, 40146, 53321, 47554],
-            [65502, 65202, 65034, 61188, 24589],
-            [47434, 28969, 17181, 49515, 31289],
-            [503, 4438, 5786, 57916, 59179],
-            [35, 335, 503, 4438, 40147],
-        ];
+        let case = Case {
+            first: [1, 2, 3, 4, 5, 6, 7, 65536, 9, 10, 11, 12],
+            second: [40000, 50000, 3, 60000],
+            factor: 65536,
+            expected: [
+                [35095, 16659, 40146, 53321, 47554],
+                [65502, 65202, 65034, 61188, 24589],
+                [47434, 28969, 17181, 49515, 31289],
+                [503, 4438, 5786, 57916, 59179],
+                [35, 335, 503, 4438, 40147],
+            ],
+        };
         let zero = Fermat::zero();
         check_case(
             &rt,
             &mut [zero; 30],
             &mut [zero; 64],
             &mut [zero; 8],
-            1,
-            65536,
-            &expected,
+            &case,
         )?;
         let zero = Loose::<65537>::zero();
         check_case(
@@ -298,9 +305,7 @@ mod tests {
             &mut [zero; 30],
             &mut [zero; 64],
             &mut [zero; 8],
-            1,
-            65536,
-            &expected,
+            &case,
         )
     }
 }

@@ -17,7 +17,8 @@ use packing::packed::Packed;
 use shelf::memory::{SHELF, WORK};
 use std::io::Write;
 use std::process::ExitCode;
-use std::{fs, io};
+use std::{fmt, fs, io};
+use writer::LONGEST;
 
 const HELP: &str = "usage: pack [--field Q] [FILE [OUT]]
 
@@ -40,26 +41,41 @@ const PACK: Program<'static> = Program {
     files: 2,
 };
 
-// Tells what was done; no `Display`, since the type is another crate's.
-fn tell(rt: &HostRuntime, name: &str, q: u64, done: &Packed) -> anyhow::Result<()> {
-    eprintln!(rt;
-        "{name}: {} states packed to {} over GF({q}), {} bytes",
-        done.before, done.after, done.bytes
-    )?;
-    eprintln!(rt;
-        "all words weigh alike: {} tried, {} kept",
-        done.verdict.tried, done.verdict.kept
-    )?;
-    Ok(())
+// What was done with the text of a file, over a field of so many elements.
+struct Told<'a> {
+    name: &'a str,
+    order: u64,
+    done: Packed,
 }
 
-// Tells where and why a text is refused.
+impl fmt::Display for Told<'_> {
+    fn fmt<W: fmt::Write>(&self, f: &mut fmt::Formatter<W>) -> fmt::Result {
+        let Told { name, order, done } = self;
+        let (before, after, bytes) = (done.before, done.after, done.bytes);
+        writeln!(f, "{name}: {before} states packed to {after} over GF({order}), {bytes} bytes")?;
+        let (tried, kept) = (done.verdict.tried, done.verdict.kept);
+        write!(f, "all words weigh alike: {tried} tried, {kept} kept")
+    }
+}
+
+// Where, if it is at fault itself, and why a text is refused.
+#[derive(Clone, Copy)]
+struct Refused(Refusal);
+
+impl fmt::Display for Refused {
+    fn fmt<W: fmt::Write>(&self, f: &mut fmt::Formatter<W>) -> fmt::Result {
+        if let Some(at) = self.0.position() {
+            write!(f, "{at}: ")?;
+        }
+        write!(f, "{}", self.0)
+    }
+}
+
+// Tells why a text is refused.
 fn refused(rt: &HostRuntime, name: &str, refusal: Refusal) -> anyhow::Error
     ensures meant { HasMessage (Some (codes "the text is refused")) result }
 {
-    let (line, column) = refusal.position();
-    let wrong = format_args!("line {line}, column {column}: {refusal}");
-    failed(rt, name, wrong, "the text is refused")
+    failed(rt, name, Refused(refusal), "the text is refused")
 }
 
 // Writes the packed text to the second file, or else to standard output.
@@ -94,7 +110,7 @@ impl OverField for Packing<'_> {
         let name = name_or(files, 0, "table");
         let mut shelf = [F::zero(); SHELF];
         let mut work = [F::zero(); WORK];
-        let mut output = [0u8; 19593];
+        let mut output = [0u8; LONGEST];
         let done = pack(&mut shelf, &mut work, &mut output, text).map_err(|refusal| refused(
             rt, name, refusal,
         ))?;
@@ -103,7 +119,9 @@ impl OverField for Packing<'_> {
             return Err(anyhow!("the packed table weighs some word differently"));
         }
         write(rt, files, &output[..done.bytes])?;
-        tell(rt, name, F::order(), &done)
+        let order = F::order();
+        eprintln!(rt; "{}", Told { name, order, done })?;
+        Ok(())
     }
 }
 

@@ -15,7 +15,8 @@ use shelf::directory::Directory;
 
 pub mod packed;
 
-// How many states the table of a place has, 0 where there is none; it is asked only where one was just made, so no `Option`.
+// How many states the table of a place has, 0 where there is none: no `Option`, since that is the book's `states_of`, by which
+// `Packed` tells its numbers.
 fn states(directory: &Directory, place: usize) -> usize
     ensures told { result ≡ states_of (at_place empty (map entry_of directory.now.entries) place) }
 {

@@ -10,9 +10,12 @@ mod tests {
     use loose::Loose;
     use reduction::reduce;
     use residue::{Bit, Fermat};
-    use rows::table::{Shape, TableRef};
+    use rows::table::{LARGEST, Shape, TableRef};
     use std::process::Abort;
     use std::test::Fail;
+
+    // How many elements of work memory a reduction asks for.
+    const WORK: usize = 8192;
 
     // Lays elements with these codes on the shelf, from element 0 on. Each is made in a roundabout way, so that a field with
     // several elements of one value shows others than the usual ones.
@@ -38,7 +41,7 @@ mod tests {
     // A sum over the codes of the first 1568 elements that depends on their order.
     fn code_sum<F: Field>(work: &[F]) -> u64 {
         let mut sum = 0;
-        for x in work.iter().take(1568) {
+        for x in work.iter().take(LARGEST) {
             sum = (sum % 4294967291 * 65599 + x.code() % 65537 + 1) % 4294967291;
         }
         sum
@@ -89,8 +92,8 @@ mod tests {
         reduced: usize,
         codes: &[u64],
     ) -> Result<(), Fail> {
-        let mut work = [Fermat::zero(); 8192];
-        let mut shelf = [Fermat::zero(); 1568];
+        let mut work = [Fermat::zero(); WORK];
+        let mut shelf = [Fermat::zero(); LARGEST];
         check_reduced(rt, &mut work, &mut shelf, shape, table, reduced, codes)
     }
 
@@ -128,8 +131,8 @@ mod tests {
     fn bits(rt: HostRuntime) -> Result<(), Fail> {
         check_reduced(
             &rt,
-            &mut [Bit::zero(); 8192],
-            &mut [Bit::zero(); 1568],
+            &mut [Bit::zero(); WORK],
+            &mut [Bit::zero(); LARGEST],
             Shape::new(5, 2),
             &[
                 0, 1, 0, 0, 0, 1, 1, 1, 0, 0, 0, 1, 1, 1, 0, 0, 1, 1, 1, 0, 0, 0, 0, 1, 0, 1, 0, 0,
@@ -148,8 +151,8 @@ mod tests {
     fn bytes(rt: HostRuntime) -> Result<(), Fail> {
         check_reduced(
             &rt,
-            &mut [Byte::zero(); 8192],
-            &mut [Byte::zero(); 1568],
+            &mut [Byte::zero(); WORK],
+            &mut [Byte::zero(); LARGEST],
             Shape::new(4, 2),
             &[
                 205, 31, 97, 0, 34, 106, 225, 0, 83, 56, 174, 0, 0, 0, 26, 0, 52, 0, 77, 51, 186,
@@ -164,8 +167,8 @@ mod tests {
     fn several_elements_of_one_value(rt: HostRuntime) -> Result<(), Fail> {
         check_reduced(
             &rt,
-            &mut [Loose::<65537>::zero(); 8192],
-            &mut [Loose::<65537>::zero(); 1568],
+            &mut [Loose::<65537>::zero(); WORK],
+            &mut [Loose::<65537>::zero(); LARGEST],
             Shape::new(4, 3),
             &[
                 65536, 1, 0, 0, 1, 1, 0, 0, 0, 2, 0, 0, 0, 2, 0, 0, 2, 1, 65536, 1, 0, 2, 0, 0, 1,
@@ -180,8 +183,8 @@ mod tests {
     // 16 states and 6 letters, with numbers of a linear generator, which are of low rank over its own field.
     #[test]
     fn sixteen_states_to_two(rt: HostRuntime) -> Result<(), Fail> {
-        let mut work = [Fermat::zero(); 8192];
-        let mut shelf = [Fermat::zero(); 1568];
+        let mut work = [Fermat::zero(); WORK];
+        let mut shelf = [Fermat::zero(); LARGEST];
         lay_generated(&mut shelf)?;
         check_laid(
             &rt,
@@ -201,8 +204,8 @@ mod tests {
     // The same numbers over bytes, where no state can go: the codes are checked by a sum over all.
     #[test]
     fn sixteen_states_stay(rt: HostRuntime) -> Result<(), Fail> {
-        let mut work = [Byte::zero(); 8192];
-        let mut shelf = [Byte::zero(); 1568];
+        let mut work = [Byte::zero(); WORK];
+        let mut shelf = [Byte::zero(); LARGEST];
         lay_generated(&mut shelf)?;
         check_laid(&rt, &mut work, &shelf, Shape::new(16, 6), 16, &[1, 0, 0, 0]);
         assert_eq!(rt; code_sum(&work), 43353484);

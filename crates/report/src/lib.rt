@@ -17,6 +17,7 @@ use byte::Byte;
 use field::Field;
 use residue::{Bit, Fermat};
 use shelf::memory::{SHELF, WORK};
+pub use telling::LONGEST;
 use telling::tell;
 use theorems::{one_line, q_where_alike};
 

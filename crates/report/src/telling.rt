@@ -32,7 +32,7 @@ fn put_refused(out: &mut [u8; LONGEST], text: u8, refusal: &Refusal) -> usize
     ensures told { AtFront (refused_line text refusal.now) out.old result out.new }
     ensures at_most { result ≤ 387 }
 {
-    let (line, column) = refusal.position();
+    let (line, column) = refusal.position().map_or((0, 0), |at| (at.line, at.column));
     let values = [
         u64::from(text),
         u64::from(refusal.number()),

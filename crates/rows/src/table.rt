@@ -5,6 +5,9 @@ ghost use Rattle.rows.specs.Layout.{table_size};
 use field::Field;
 use std::alloc::AllocError;
 
+/// How many elements the largest table takes.
+pub const LARGEST: usize = 1568;
+
 /// How many states and letters a table has: from 0 to 16 states and from 1 to 6 letters; no other shape can be made.
 #[derive(Clone, Copy, Debug, PartialEq, Eq)]
 pub struct Shape {
@@ -81,11 +84,7 @@ impl<'a, F: Field> TableRef<'a, F> {
         ensures of_shape { result.shape ≡ shape }
         ensures in_front { (result.memory.now ≡ memory.now) × (result.base ≡ 0) }
     {
-        TableRef {
-            memory,
-            base: 0,
-            shape,
-        }
+        TableRef::at(memory, 0, shape)
     }
 
     /// The table that begins at the element `base`.

@@ -45,7 +45,7 @@ Named rest name n = (after : List ℕ) × NextWord rest name after × Numbers af
 abbrev pub Orders : List ℕ → Order → Type 0
 Orders line (orders.Field offered) = (rest : List ℕ) × Begun line verbs.Field rest × Numbers rest (q_of offered ∷ [])
 Orders line (orders.Open n) = (rest : List ℕ) × Begun line verbs.Open rest × Opened rest n
-Orders line (orders.Lend w b) = (rest : List ℕ) × Begun line verbs.Lend rest × Numbers rest (w ∷ b ∷ [])
+Orders line (orders.Lend given) = (rest : List ℕ) × Begun line verbs.Lend rest × Numbers rest (given.work ∷ given.output ∷ [])
 Orders line (orders.Call call) = (rest : List ℕ) × Begun line (verb_of call) rest × Arguments call rest
 
 -- the line is passed over: it is blank, or a comment

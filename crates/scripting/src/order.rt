@@ -16,12 +16,19 @@ use command::offered::Offered;
 use shelf::memory::SHELF;
 use std::alloc::Global;
 
+/// How much of work memory and output each call is given.
+#[derive(Clone, Copy)]
+pub struct Given {
+    pub work: usize,
+    pub output: usize,
+}
+
 /// What is performed. A call owns its text or word.
 #[derive(Drop)]
 pub enum Order {
     Field(Offered),
     Open { elements: usize },
-    Lend { work: usize, output: usize },
+    Lend(Given),
     Call(Call<Vec<u8>>),
 }
 
@@ -196,7 +203,7 @@ pub fn read_line(heap: Global, line: &[u8]) -> Result<Option<Said<'_>>, Reason>
         }
         Verb::Lend => {
             let [work, output] = numbers::<2>(rest)?;
-            Ok(Some(Said::Order(Order::Lend { work, output })))
+            Ok(Some(Said::Order(Order::Lend(Given { work, output }))))
         }
         Verb::Text => {
             let (name, rest) = word(rest)?;

@@ -10,7 +10,7 @@ ghost use Rattle.scripting.specs.Telling.{told_line};
 ghost use Rattle.scripting.specs.declared.performing.Failure.TheVariants.{NoMemory};
 
 use crate::mistake::Mistake;
-use crate::order::Order;
+use crate::order::{Given, Order};
 use crate::outcomes::Shown;
 use crate::reading::{Entry, Line, Script, read};
 use crate::verb::Verb;
@@ -25,16 +25,7 @@ use shelf::memory::{SHELF, WORK};
 use std::alloc::{AllocError, Global};
 use std::error::Error;
 use std::{fmt, slice};
-
-/// How many bytes of output there are: as many as the longest text of a table has.
-pub const OUTPUT: usize = 19593;
-
-/// How much of work memory and output each call is given.
-#[derive(Clone, Copy)]
-pub struct Given {
-    pub work: usize,
-    pub output: usize,
-}
+use writer::LONGEST;
 
 /// Makes one call on a shelf, with as much work memory and output as it is given. All memory is lent, as to the shelf.
 pub fn make<F: Field>(
@@ -98,9 +89,10 @@ impl Session {
     {
         let mut directory = Directory::open();
         let mut shelf = [F::zero(); SHELF];
+        // The array is all that can be opened, and its front, so long, is what is lent: a slice kept here would stay borrowed.
         let mut open = SHELF;
         let mut work = [F::zero(); WORK];
-        let mut output = [0u8; OUTPUT];
+        let mut output = [0u8; LONGEST];
         for line in lines {
             match &line.entry {
                 Entry::Order(Order::Field(_)) => return Ok(()),
@@ -109,12 +101,7 @@ impl Session {
                     shelf = [F::zero(); SHELF];
                     open = (*elements).min(SHELF);
                 }
-                Entry::Order(Order::Lend { work, output }) => {
-                    self.given = Given {
-                        work: *work,
-                        output: *output,
-                    };
-                }
+                Entry::Order(Order::Lend(given)) => self.given = *given,
                 Entry::Order(Order::Call(call)) => {
                     let outcome = make(
                         &mut directory,
@@ -157,7 +144,7 @@ pub fn perform(heap: Global, script: &Script) -> Result<Vec<u8>, AllocError> {
     let lines = script.lines.as_slice();
     let given = Given {
         work: WORK,
-        output: OUTPUT,
+        output: LONGEST,
     };
     let shown = Vec::new(heap);
     let mut session = Session { heap, given, shown };

@@ -12,17 +12,24 @@ mod tests {
     use residue::{Bit, Fermat};
     use rows::table::{Shape, TableRef};
     use search::compare::{Comparison, compare};
+    use search::word::ReportedWord;
     use std::process::Abort;
     use std::test::Fail;
     use walk::pairs::Pair;
 
-    // Letters in their places, as the digits of a number.
-    fn digits(letters: &[u8]) -> u64 {
-        let mut x: u64 = 0;
-        for a in letters {
-            x = x.wrapping_mul(10).wrapping_add(u64::from(*a));
+    // How many elements of work memory a comparison asks for.
+    const WORK: usize = 8192;
+
+    // The word of these letters, as it is reported: the places behind them are 0.
+    fn reported(word: &[u8]) -> ReportedWord {
+        let mut letters = [0; 31];
+        for (place, letter) in letters.iter_mut().zip(word) {
+            *place = *letter;
         }
-        x
+        ReportedWord {
+            length: word.len(),
+            letters,
+        }
     }
 
     // Sets elements of a shelf by place and code.
@@ -57,44 +64,32 @@ mod tests {
         requires same_letters { right.shape.letters ≡ left.shape.letters }
         requires room { 8192 ≤ length work.old }
     {
-        match compare(work, Pair { left, right }) {
-            Comparison::Alike { tried, kept } => {
-                assert_eq!(rt; (tried, kept), counts);
-                Ok(())
-            },
-            Comparison::Differs { .. } => Err(Fail::new("equal tables differ")),
-        }
+        let (tried, kept) = counts;
+        assert_eq!(rt; compare(work, Pair { left, right }), Comparison::Alike { tried, kept });
+        Ok(())
     }
 
-    // The number of letters and of tried words, all places of the word as two numbers, and the codes of its weights.
+    // The first word that differs, how many words are tried up to it, and the codes of its weights.
     fn check_differ<F: Field>(
         rt: &impl Abort,
         work: &mut [F],
         left: TableRef<'_, F>,
         right: TableRef<'_, F>,
-        expected: [u64; 6],
+        word: &[u8],
+        tried: usize,
+        codes: (u64, u64),
     ) -> Result<(), Fail>
         requires same_letters { right.shape.letters ≡ left.shape.letters }
         requires room { 8192 ≤ length work.old }
     {
-        match compare(work, Pair { left, right }) {
-            Comparison::Alike { .. } => Err(Fail::new("different tables are alike")),
-            Comparison::Differs {
-                word,
-                tried,
-                left,
-                right,
-            } => {
-                let front = digits(&word.letters[..16]);
-                let back = digits(&word.letters[16..]);
-                // casts, since std has no `From<usize>` of u64
-                assert_eq!(rt;
-                    [word.length as u64, tried as u64, front, back, left, right],
-                    expected
-                );
-                Ok(())
-            }
-        }
+        let expected = Comparison::Differs {
+            word: reported(word),
+            tried,
+            left: codes.0,
+            right: codes.1,
+        };
+        assert_eq!(rt; compare(work, Pair { left, right }), expected);
+        Ok(())
     }
 
     // Two tables of 16 states each that differ first at 31 letters.
@@ -172,28 +167,28 @@ mod tests {
             work,
             left,
             right,
-            [31, 62, 1212121212121212, 121212121212121, 55513, 55512],
+            &[1, 2, 1, 2, 1, 2, 1, 2, 1, 2, 1, 2, 1, 2, 1, 2, 1, 2, 1, 2, 1, 2, 1, 2, 1, 2, 1, 2, 1, 2, 1], 62, (55513, 55512),
         )?;
         check_alike(rt, work, left, left, (33, 16))
     }
 
     #[test]
     fn longest_word_over_fermat(rt: HostRuntime) -> Result<(), Fail> {
-        let mut work = [Fermat::zero(); 8192];
+        let mut work = [Fermat::zero(); WORK];
         let mut shelf = [Fermat::zero(); 1088];
         check_longest(&rt, &mut work, &mut shelf)
     }
 
     #[test]
     fn longest_word_over_loose(rt: HostRuntime) -> Result<(), Fail> {
-        let mut work = [Loose::<65537>::zero(); 8192];
+        let mut work = [Loose::<65537>::zero(); WORK];
         let mut shelf = [Loose::<65537>::zero(); 1088];
         check_longest(&rt, &mut work, &mut shelf)
     }
 
     #[test]
     fn bits(rt: HostRuntime) -> Result<(), Fail> {
-        let mut work = [Bit::zero(); 8192];
+        let mut work = [Bit::zero(); WORK];
         let mut shelf = [Bit::zero(); 64];
         put(
             &mut shelf,
@@ -219,7 +214,7 @@ mod tests {
             &mut work,
             left,
             right,
-            [4, 5, 1111000000000000, 0, 1, 0],
+            &[1, 1, 1, 1], 5, (1, 0),
         )?;
         // one state that stays, and two that take turns and weigh the same
         let mut shelf = [Bit::zero(); 64];
@@ -246,7 +241,7 @@ mod tests {
 
     #[test]
     fn bytes(rt: HostRuntime) -> Result<(), Fail> {
-        let mut work = [Byte::zero(); 8192];
+        let mut work = [Byte::zero(); WORK];
         let mut shelf = [Byte::zero(); 64];
         put(
             &mut shelf,
@@ -272,7 +267,7 @@ mod tests {
             &mut work,
             left,
             right,
-            [5, 10, 1212100000000000, 0, 255, 254],
+            &[1, 2, 1, 2, 1], 10, (255, 254),
         )?;
         // a table, and the same in another basis with a state that is never reached
         let mut shelf = [Byte::zero(); 64];
@@ -315,7 +310,7 @@ mod tests {
     // Elements that are not zero lie before, between and behind the tables.
     #[test]
     fn tables_amid_other_elements(rt: HostRuntime) -> Result<(), Fail> {
-        let mut work = [Fermat::zero(); 8192];
+        let mut work = [Fermat::zero(); WORK];
         let nine = Fermat::from_code(9).ok_or("a code below the order is refused")?;
         let mut shelf = [nine; 64];
         put(
@@ -341,14 +336,14 @@ mod tests {
             &mut work,
             ones,
             powers,
-            [1, 2, 1000000000000000, 0, 1, 2],
+            &[1], 2, (1, 2),
         )?;
-        check_differ(&rt, &mut work, zeros, ones, [0, 1, 0, 0, 0, 1])
+        check_differ(&rt, &mut work, zeros, ones, &[], 1, (0, 1))
     }
 
     #[test]
     fn zeros_and_no_states(rt: HostRuntime) -> Result<(), Fail> {
-        let mut work = [Fermat::zero(); 8192];
+        let mut work = [Fermat::zero(); WORK];
         let mut shelf = [Fermat::zero(); 64];
         let none = table(&shelf, 0, 0, 2);
         let two = table(&shelf, 0, 2, 2);
@@ -359,7 +354,7 @@ mod tests {
         put(&mut shelf, &[(0, 5), (2, 7)])?;
         let none = table(&shelf, 0, 0, 1);
         let one = table(&shelf, 0, 1, 1);
-        check_differ(&rt, &mut work, none, one, [0, 1, 0, 0, 0, 35])?;
-        check_differ(&rt, &mut work, one, none, [0, 1, 0, 0, 35, 0])
+        check_differ(&rt, &mut work, none, one, &[], 1, (0, 35))?;
+        check_differ(&rt, &mut work, one, none, &[], 1, (35, 0))
     }
 }

@@ -12,6 +12,7 @@ use field::Field;
 use shelf::directory::Directory;
 use shelf::memory::{SHELF, WORK};
 use std::process::Abort;
+use writer::LONGEST;
 
 /// How much of the bench's memory a call is lent, from the front.
 #[derive(Clone, Copy)]
@@ -25,7 +26,7 @@ pub struct Lent {
 pub const ALL: Lent = Lent {
     shelf: SHELF,
     work: WORK,
-    output: 19593,
+    output: LONGEST,
 };
 
 /// No memory.
@@ -58,7 +59,7 @@ pub struct Bench<F, A> {
     // writes work memory.
     pub shelf: [F; SHELF],
     work: [F; WORK],
-    pub output: [u8; 19593],
+    pub output: [u8; LONGEST],
     pub verdict: Verdict,
 }
 
@@ -70,7 +71,7 @@ impl<F: Field, A: Abort + Copy> Bench<F, A> {
             directory: Directory::open(),
             shelf: [F::zero(); SHELF],
             work: [F::zero(); WORK],
-            output: [byte; 19593],
+            output: [byte; LONGEST],
             verdict: ODD_VERDICT,
         }
     }

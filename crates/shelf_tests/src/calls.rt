@@ -1,6 +1,7 @@
 //! The calls in short: each function takes the arguments of its call in their order, the result place last.
 use book::call::{Call, Request};
 use shelf::memory::WORK;
+use writer::LONGEST;
 
 pub fn load(text: &[u8], to: usize) -> Call<&[u8]> {
     Call::Load { text, to }
@@ -51,6 +52,6 @@ pub fn ask(call: Call<&[u8]>) -> Request<'_> {
     Request {
         call,
         work: WORK,
-        output: 19593,
+        output: LONGEST,
     }
 }

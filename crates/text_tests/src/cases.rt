@@ -4,21 +4,21 @@ ghost use Rattle.std.specs.Prelude.{◌<◌, length};
 use super::tally::{Tally, Verdict};
 use field::Field;
 use residue::Fermat;
-use rows::table::{Shape, TableRef};
+use rows::table::{LARGEST, Shape, TableRef};
 use std::io;
-use writer::{text_size, write_table};
+use writer::{LONGEST, text_size, write_table};
 
 // One state and one letter over GF(65537).
 const SMALL: [u8; 98] =
     *b"T          1          1      65537\nS          1\nM          1          1      65536\nE          0\nZ\n";
 
 /// Prints a verdict.
-fn show(rt: HostRuntime, name: &str, text: &[u8], work: &mut [Fermat; 1568]) -> io::Result<()> {
+fn show(rt: HostRuntime, name: &str, text: &[u8], work: &mut [Fermat; LARGEST]) -> io::Result<()> {
     println!(rt; "{name}: {}", Verdict::on(text, work))
 }
 
 /// Each refusal at its first and at its last possible position in a text of one state.
-pub fn named_texts(rt: HostRuntime, work: &mut [Fermat; 1568]) -> io::Result<()> {
+pub fn named_texts(rt: HostRuntime, work: &mut [Fermat; LARGEST]) -> io::Result<()> {
     show(rt, "10 first", b"", work)?;
     show(
         rt,
@@ -70,14 +70,14 @@ fn started(columns: &[u8; 11]) -> [u8; 98] {
 }
 
 /// The largest code and the number after it in a start line, and a number that begins with 0.
-pub fn start_lines(rt: HostRuntime, work: &mut [Fermat; 1568]) -> io::Result<()> {
+pub fn start_lines(rt: HostRuntime, work: &mut [Fermat; LARGEST]) -> io::Result<()> {
     show(rt, "65536 at start", &started(b"      65536"), work)?;
     show(rt, "65537 at start", &started(b"      65537"), work)?;
     show(rt, "01 at start", &started(b"         01"), work)
 }
 
 /// Every front of the text of one state.
-pub fn prefixes(rt: HostRuntime, work: &mut [Fermat; 1568]) -> io::Result<()> {
+pub fn prefixes(rt: HostRuntime, work: &mut [Fermat; LARGEST]) -> io::Result<()> {
     let mut tally = Tally::new();
     // lengths, since no iterator gives the fronts of a slice
     for length in 0..SMALL.len() {
@@ -86,32 +86,39 @@ pub fn prefixes(rt: HostRuntime, work: &mut [Fermat; 1568]) -> io::Result<()> {
     println!(rt; "fronts: {tally}")
 }
 
-/// Every byte in the place of the one at `i`, which is put back.
-fn changed(text: &mut [u8], i: usize, work: &mut [Fermat; 1568], tally: &mut Tally)
+/// Each byte from `first` to `last` in the place of the one at `i`, which is put back.
+fn changed(
+    text: &mut [u8],
+    i: usize,
+    first: u8,
+    last: u8,
+    work: &mut [Fermat; LARGEST],
+    tally: &mut Tally,
+)
     requires within { i < length text.old }
 {
     let was = text[i];
-    for b in 0..=255u8 {
+    for b in first..=last {
         text[i] = b;
         tally.add(Verdict::on(text, work));
     }
     text[i] = was;
 }
 
-/// Every change of one byte.
-fn every_change(text: &mut [u8], work: &mut [Fermat; 1568]) -> Tally {
+/// Each byte from `first` to `last` in the place of each byte of the text.
+fn every_change(text: &mut [u8], first: u8, last: u8, work: &mut [Fermat; LARGEST]) -> Tally {
     let mut tally = Tally::new();
     // an index, since the whole text is read while one of its bytes is changed
     for i in 0..text.len() {
-        changed(text, i, work, &mut tally);
+        changed(text, i, first, last, work, &mut tally);
     }
     tally
 }
 
 /// Every change of one byte of the text of one state.
-pub fn small_changes(rt: HostRuntime, work: &mut [Fermat; 1568]) -> io::Result<()> {
+pub fn small_changes(rt: HostRuntime, work: &mut [Fermat; LARGEST]) -> io::Result<()> {
     let mut text = SMALL;
-    let tally = every_change(&mut text, work);
+    let tally = every_change(&mut text, 0, 255, work);
     println!(rt; "changes: {tally}")
 }
 
@@ -152,7 +159,7 @@ fn show_text(
 /// Tables of no states and of the most states and letters, written, read and written again.
 pub fn large_table(
     rt: HostRuntime,
-    work: &mut [Fermat; 1568],
+    work: &mut [Fermat; LARGEST],
     text: &mut [u8; 19600],
 ) -> io::Result<()> {
     text.fill(b'#');
@@ -169,30 +176,16 @@ pub fn large_table(
     };
     show_text(rt, "most states", TableRef::new(work, shape), text)?;
     fill(work, 0, 0);
-    show(rt, "most states read", &text[..19593], work)?;
+    show(rt, "most states read", &text[..LONGEST], work)?;
     show_text(rt, "most states again", TableRef::new(work, shape), text)
-}
-
-/// An x in the place of each byte, one after another.
-// Not one with `every_change`: a closure for what is tried at a place would borrow the text that the loop goes over.
-fn crossed(text: &mut [u8], work: &mut [Fermat; 1568]) -> Tally {
-    let mut tally = Tally::new();
-    // an index, since the whole text is read while one of its bytes is changed
-    for i in 0..text.len() {
-        let was = text[i];
-        text[i] = b'x';
-        tally.add(Verdict::on(text, work));
-        text[i] = was;
-    }
-    tally
 }
 
 /// An x in the place of each byte of the text of the most states and letters that stands in `text`.
 pub fn large_changes(
     rt: HostRuntime,
-    work: &mut [Fermat; 1568],
+    work: &mut [Fermat; LARGEST],
     text: &mut [u8; 19600],
 ) -> io::Result<()> {
-    let tally = crossed(&mut text[..19593], work);
+    let tally = every_change(&mut text[..LONGEST], b'x', b'x', work);
     println!(rt; "most states crossed: {tally}")
 }

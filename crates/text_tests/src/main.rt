@@ -9,10 +9,11 @@ use cases::{large_changes, large_table, named_texts, prefixes, small_changes, st
 use field::Field;
 use numbers::{largest, refused_columns};
 use residue::Fermat;
+use rows::table::LARGEST;
 use std::io;
 
 fn main(rt: HostRuntime) -> io::Result<()> {
-    let mut work = [Fermat::zero(); 1568];
+    let mut work = [Fermat::zero(); LARGEST];
     let mut text = [0u8; 19600];
     named_texts(rt, &mut work)?;
     start_lines(rt, &mut work)?;

@@ -12,8 +12,8 @@ fn show(rt: HostRuntime, bytes: &[u8; 11]) -> io::Result<()> {
     match columns(bytes, start) {
         Ok(value) => println!(rt; "number {value}"),
         Err(fault) => {
-            let (line, column) = fault.position();
-            println!(rt; "column {line} {column}")
+            let at = fault.position();
+            println!(rt; "column {} {}", at.line, at.column)
         }
     }
 }

@@ -2,7 +2,7 @@
 
 use faults::{LineFault, LoadFault};
 use residue::Fermat;
-use rows::table::Shape;
+use rows::table::{LARGEST, Shape};
 use std::fmt;
 use text::table::read_table;
 
@@ -12,7 +12,7 @@ pub struct Verdict(pub Result<Shape, LoadFault>);
 
 impl Verdict {
     /// The verdict on a text.
-    pub fn on(text: &[u8], work: &mut [Fermat; 1568]) -> Verdict {
+    pub fn on(text: &[u8], work: &mut [Fermat; LARGEST]) -> Verdict {
         Verdict(read_table::<Fermat>(text, work))
     }
 
@@ -23,11 +23,11 @@ impl Verdict {
             // `as`: std has no From between usize and u64.
             Ok(shape) => (0, shape.states as u64, shape.letters as u64),
             Err(fault) => {
-                let (line, column) = fault.position();
+                let at = fault.position();
                 (
                     u64::from(fault.refusal()),
-                    u64::from(line),
-                    u64::from(column),
+                    u64::from(at.line),
+                    u64::from(at.column),
                 )
             }
         }

@@ -7,50 +7,56 @@ use field::Field;
 use operations::multiplication::multiply;
 use reduction::reduce;
 use residue::Fermat;
-use rows::table::{Shape, TableRef};
+use rows::table::{LARGEST, Shape, TableRef};
 use search::compare::{Comparison, compare};
-use std::io;
+use std::fmt;
 use std::io::Write;
 use text::table::read_table;
 use walk::pairs::Pair;
-use writer::write_table;
+use writer::{LONGEST, write_table};
+
+// How many elements of work memory comparing and reducing ask for. The shelf's number, which is that of a crate above these.
+const WORK: usize = 8192;
 
 // Start (1, 0), matrix rows (0, 1) and (1, 1), end (0, 1): the word of m letters weighs the m-th Fibonacci number.
 const FIBONACCI: &[u8] =
     b"T          2          1      65537\nS          1          0\nM          1          1          0          1\nM          1          2          1          1\nE          0          1\nZ\n";
 
-// Tells what a comparison found; no `Display`, since the type is another crate's.
-fn tell(rt: &HostRuntime, found: Comparison) -> io::Result<()> {
-    match found {
-        Comparison::Alike { tried, kept } => {
-            println!(rt; "all words weigh alike: {tried} tried, {kept} kept")
-        }
-        Comparison::Differs {
-            word,
-            tried,
-            left,
-            right,
-        } => {
-            let length = word.length;
-            println!(rt;
-                "the first word that differs has {length} letters, weighs {left} and {right}, and is the {tried}th tried"
-            )
+// What a comparison found, for a person.
+#[derive(Clone, Copy)]
+struct Found(Comparison);
+
+impl fmt::Display for Found {
+    fn fmt<W: fmt::Write>(&self, f: &mut fmt::Formatter<W>) -> fmt::Result {
+        match self.0 {
+            Comparison::Alike { tried, kept } => {
+                write!(f, "all words weigh alike: {tried} tried, {kept} kept")
+            }
+            Comparison::Differs {
+                word,
+                tried,
+                left,
+                right,
+            } => {
+                write!(f, "the first word that differs has {} letters, ", word.length)?;
+                write!(f, "weighs {left} and {right}, and is the {tried}th tried")
+            }
         }
     }
 }
 
 // Writes the text of a table.
 fn print_table(rt: &HostRuntime, table: TableRef<'_, Fermat>) -> anyhow::Result<()> {
-    let mut output = [0u8; 19593];
+    let mut output = [0u8; LONGEST];
     let count = write_table(table, &mut output);
     rt.stdout().write_all(&output[0..count])?;
     Ok(())
 }
 
 fn main(rt: HostRuntime) -> anyhow::Result<()> {
-    let mut memory = [Fermat::zero(); 1568];
-    let mut squared = [Fermat::zero(); 1568];
-    let mut work = [Fermat::zero(); 8192];
+    let mut memory = [Fermat::zero(); LARGEST];
+    let mut squared = [Fermat::zero(); LARGEST];
+    let mut work = [Fermat::zero(); WORK];
     let Ok(shape) = read_table(FIBONACCI, &mut memory) else {
         return Err(anyhow!("the text is refused"));
     };
@@ -63,8 +69,8 @@ fn main(rt: HostRuntime) -> anyhow::Result<()> {
     let square = TableRef::new(&squared, square_shape);
     let states = reduce(&mut work, square);
     let packed_shape = Shape::new(states, shape.letters);
-    let mut packed = [Fermat::zero(); 1568];
-    packed.copy_from_slice(&work[0..1568]);
+    let mut packed = [Fermat::zero(); LARGEST];
+    packed.copy_from_slice(&work[0..LARGEST]);
     let packed = TableRef::new(&packed, packed_shape);
     println!(rt;
         "states: {} squared to {}, packed to {}",
@@ -74,11 +80,11 @@ fn main(rt: HostRuntime) -> anyhow::Result<()> {
         left: square,
         right: packed,
     };
-    tell(&rt, compare(&mut work, form))?;
+    println!(rt; "{}", Found(compare(&mut work, form)))?;
     let other = Pair {
         left: table,
         right: square,
     };
-    tell(&rt, compare(&mut work, other))?;
+    println!(rt; "{}", Found(compare(&mut work, other)))?;
     print_table(&rt, packed)
 }

@@ -5,7 +5,7 @@
 ghost use Rattle.std.specs.Prelude.{◌<◌, length, IfOk, IfSome};
 
 use anyhow::Context;
-use report::report;
+use report::{LONGEST, report};
 use scripting::decimal::number;
 use scripting::performing::run_script;
 use scripting::words::before;
@@ -31,7 +31,7 @@ fn report_pair<'a>(rt: &HostRuntime, stream: &'a [u8]) -> anyhow::Result<&'a [u8
 {
     let (first, rest) = block(stream).context("a text is missing")?;
     let (second, rest) = block(rest).context("a text is missing")?;
-    let mut line = [0; 387];
+    let mut line = [0; LONGEST];
     let count = report(first, second, &mut line);
     rt.stdout().write_all(&line[..count])?;
     Ok(rest)

@@ -11,7 +11,8 @@ use command::offered::{Offered, OverField, with_field};
 use command::program::Program;
 use command::wish::name_or;
 use field::Field;
-use report::{report, report_bits, report_bytes};
+use report::{LONGEST, report, report_bits, report_bytes};
+use rows::table::LARGEST;
 use std::io;
 use std::io::Write;
 use std::process::ExitCode;
@@ -74,13 +75,13 @@ struct Refused<'a> {
 fn tell_refused<F: Field>(rt: &HostRuntime, named: Named<'_>) -> io::Result<bool>
     requires elements_fit { 12544 * type_size F.row < 2 ^ 63 }
 {
-    let mut memory = [F::zero(); 1568];
+    let mut memory = [F::zero(); LARGEST];
     let Err(fault) = read_table(named.text, &mut memory) else {
         return Ok(false);
     };
     let name = named.name;
-    let (line, column) = fault.position();
-    eprintln!(rt; "{name}: line {line}, column {column}: {fault}")?;
+    let at = fault.position();
+    eprintln!(rt; "{name}: {at}: {fault}")?;
     Ok(true)
 }
 
@@ -111,7 +112,7 @@ fn work<'a>(rt: &'a HostRuntime, field: Offered, files: &'a [String]) -> anyhow:
     let names = (name_or(files, 0, "first"), name_or(files, 1, "second"));
     let first = read(rt, names.0)?;
     let second = read(rt, names.1)?;
-    let mut line = [0u8; 387];
+    let mut line = [0u8; LONGEST];
     let count = report_offered(field, first.as_slice(), second.as_slice(), &mut line);
     rt.stdout().write_all(&line[..count])?;
     // By the first byte: the line is all that a report answers.

@@ -103,6 +103,7 @@ pub fn try_empty<F: Field>(
 }
 
 /// Tries each kept word with each letter, those too that are kept on the way.
+// Not one with the passes of a reduction: a walk ends at a difference, notes the words' links, and each of the three keeps other rows.
 pub fn try_rest<F: Field>(
     rows: &mut [F],
     echelon: &mut [F],

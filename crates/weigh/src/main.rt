@@ -12,7 +12,7 @@ ghost use Rattle.weigh.specs.Letters.{letter};
 use faults::{LineFault, LoadFault};
 use field::Field;
 use residue::Fermat;
-use rows::table::TableRef;
+use rows::table::{LARGEST, TableRef};
 use rows::weight::{LetterOutside, weigh};
 use std::alloc::{AllocError, Global};
 use std::process::ExitCode;
@@ -54,22 +54,18 @@ fn shown(line: &[u8], position: usize) -> char
         .map_or('?', |b| char::from(*b))
 }
 
-// Where and why a table is refused, in this program's own words, which are not those of the fault.
+// Where and why a table is refused; in two cases in words of this program's own, which it keeps.
 #[derive(Clone, Copy)]
 struct Refused(LoadFault);
 
 impl fmt::Display for Refused {
     fn fmt<W: fmt::Write>(&self, f: &mut fmt::Formatter<W>) -> fmt::Result {
-        let (line, column) = self.0.position();
         let reason = match self.0 {
             LoadFault::Line(LineFault::Column(_)) => "this byte cannot stand in its column",
-            LoadFault::Line(LineFault::Ends(_)) => "the text ends where a byte is due",
-            LoadFault::Line(LineFault::Unexpected(_)) => "another kind of line is due",
-            LoadFault::Line(LineFault::Unended(_)) => "the line should end here",
             LoadFault::Value(_) => "this number is not the one due, or not within its limits",
-            LoadFault::Beyond(_) => "nothing may follow the last line",
+            fault => fault.reason(),
         };
-        write!(f, "line {line}, column {column}: {reason}")
+        write!(f, "{}: {reason}", self.0.position())
     }
 }
 
@@ -92,7 +88,7 @@ fn weigh_words(rt: &HostRuntime, table: TableRef<'_, Fermat>) -> anyhow::Result<
 
 fn main(rt: HostRuntime) -> anyhow::Result<ExitCode> {
     let text = fs::read(&rt, "table")?;
-    let mut memory = [Fermat::zero(); 1568];
+    let mut memory = [Fermat::zero(); LARGEST];
     match read_table(text.as_slice(), &mut memory) {
         Ok(shape) => {
             weigh_words(&rt, TableRef::new(&memory, shape))?;

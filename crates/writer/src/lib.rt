@@ -13,6 +13,9 @@ use field::Field;
 use rows::table::{Shape, TableRef};
 use text::matrix::heads;
 
+/// How many bytes the longest text of a table has.
+pub const LONGEST: usize = 19593;
+
 /// Writes a line of the numbers `heads` and then of the elements' codes.
 fn put_codes_line<F: Field>(out: &mut [u8], kind: Kind, heads: &[u64], elements: &[F])
     requires ten_digits { TenDigits heads.now }
