@@ -1,7 +1,7 @@
 -- The first columns of a number, one by one. Assumes nothing.
 use Rattle.std.proofs.Common.{◌≡◌, ℕ, zero, suc, ◌+◌, ◌-◌, ◌*◌, ◌/◌, ◌%◌, ◌^◌, ◌<◌, ◌≤◌, cond, eqb, leb, ◌⊎◌, List, [], ◌∷◌, ◌++◌, length, get_or, take, drop, set, replicate, decimal, sym, refl, ap, ◌∙◌, subst, inl, inr, ⊎_elim, append_assoc, add-zero, add-suc, lt_of_mul-lt-mul_right, mul-lt-mul_of_pos_right, pow-suc, mul_right_comm, div-mul-le_self, div-one, mul-div_cancel, add-one, arith, pow-add}
 use native.Mathlib.Nat.{pow-zero, div-div-eq-div-mul, pow-succ', pow-le-pow_right}
-use Rattle.std.proofs.lemmas.List.{length_push, replicate_more, take-append-le, take_all, take_at, get_or_at, take_more, length-take-le, drop-set, drop_all, append-nil}
+use Rattle.std.proofs.lemmas.List.{length_push, replicate_more, take-append-le, take_all, take_at, get_or_at, take_more, length-take-le, drop-set}
 use Rattle.std.proofs.lemmas.Fmt.{decimal_digit, decimal_step}
 use Rattle.std.proofs.lemmas.Bool.{cases_eq, cases_lt, le-leb, lt-leb, ne_eqb}
 use Rattle.columns.specs.Numbers.{number, Begins, Broken, Holds}
@@ -227,9 +227,6 @@ put_more zero rest b cols whole some fits e w = absurd (omega arith)
 put_more (suc j) rest b cols whole some fits e w =
     let back : suc j - 1 ≡ j = omega arith in
     rw (back, drop-set cols j b fits, add-one, e) (w ∙ ap (λ l. l ++ drop (suc j) cols) (begun_step j rest) ∙ append_assoc (begun j (rest / 10)) (cell (suc j) rest ∷ []) (drop (suc j) cols))
-
-pub put_none : (v : ℕ) (cols : List ℕ) → length cols ≡ 11 → begun 11 v ≡ begun 11 v ++ drop 11 cols
-put_none v cols e = sym (ap (λ l. begun 11 v ++ l) (drop_all 11 cols (omega arith)) ∙ append-nil (begun 11 v))
 
 pub put_all : (v rest i : ℕ) (cols : List ℕ) → v < 10 ^ 10 → i ≡ 0 → begun 11 v ≡ begun i rest ++ drop i cols → cols ≡ number v
 unfolding begun

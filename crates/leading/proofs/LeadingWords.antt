@@ -277,9 +277,6 @@ module _ {F V : Type 0} (K : FiniteField V) (v : F → V) (view : View F) where
       each b' l h (yes e) = subst (λ m. Stepped K v view (suc count) more' ks' i m) (sym e) last
       each b' l h (no z) = old i b' r.inside (omega arith) (r.here b' l (omega arith))
 
-  pub walked_trying : (i count : ℕ) (ps : List ℕ) (rs ts ks : List F) → WalkedBy K v view i count ps rs ts ks → i < count → TryingBy K v view i 1 count ps rs ts ks
-  walked_trying i count ps rs ts ks p l = record { words = p.words; held = p.held; few = p.few; inside = l; scanned = p.next l; past = p.past; here = λ b z h. absurd (omega arith) }
-
   pub trying_walked : (i count : ℕ) (ps : List ℕ) (rs ts ks : List F) → TryingBy K v view i (k + 1) count ps rs ts ks → WalkedBy K v view (i + 1) count ps rs ts ks
   trying_walked i count ps rs ts ks r =
       let s = r.scanned in

@@ -94,10 +94,6 @@ module _ {V : Type 0} (K : FiniteField V) where
             front i (omega arith) ∙ ap (λ v. inv (y b) ⊗ v) (whole i l) ∙ K.times_plus (inv (y b)) (mix K n (λ j. y (16 + j)) ps i) (x i)
             ∙ ap₂ ◌⊕◌ (sym (mix_times n (inv (y b)) (λ j. y (16 + j)) ps i) ∙ mix_same n (λ j. inv (y b) ⊗ y (16 + j)) (λ j. z (16 + j)) ps qs i (λ j h. sym (back j (omega arith) (omega arith))) (λ j h. sym (same j h i l))) (ap₂ ◌⊗◌ (sym here) (sym (last i l)))
 
-  -- rows of 32 entries whose pivots are among the first d
-  pub echelon_wide : (d n : ℕ) (q : ℕ → ℕ → V) (p : ℕ → ℕ) → d ≤ 32 → Echelon K (λ i. i < d) n q p → Echelon K (λ i. i < 32) n q p
-  echelon_wide d n q p h e = record { within = λ i l. let w = e.within i l in omega arith; apart = e.apart; clear = e.clear }
-
   -- rows with the same entries have the same coefficients
   pub tracked_same : (d n : ℕ) (ps q q' : ℕ → ℕ → V) → d ≤ 16 → n ≤ 16 → ((b : ℕ) → b < n → Agree 32 (q' b) (q b)) → Tracked K d n ps q → Tracked K d n ps q'
   tracked_same d n ps q q' small few s t =

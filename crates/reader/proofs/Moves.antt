@@ -1,5 +1,5 @@
 -- What a step of the reader goes over, and where it stops. Assumes nothing.
-use Rattle.std.proofs.Common.{◌≡◌, ℕ, ◌+◌, ◌<◌, ◌≤◌, List, [], ◌∷◌, ◌++◌, length, get_or, take, drop, sym, refl, ap, ◌∙◌, subst, inl, inr, add-zero, arith}
+use Rattle.std.proofs.Common.{◌≡◌, ℕ, ◌+◌, ◌<◌, ◌≤◌, List, [], ◌∷◌, length, get_or, take, sym, refl, ap, ◌∙◌, subst, inr, add-zero, arith}
 use Rattle.std.specs.declared.option.Option.{Option}
 use Rattle.std.specs.declared.option.Option.TheVariants.{Some, None}
 use Rattle.std.specs.declared.result.Result.{Result}
@@ -7,8 +7,8 @@ use Rattle.std.specs.declared.result.Result.TheVariants.{Ok, Err}
 use Rattle.std.specs.Option.{ok_or, MatchOption}
 use Rattle.std.specs.Result.{result_or, MatchResult, IsErrAnd}
 use Rattle.std.proofs.lemmas.Result.{err_from_is_err_and}
-use Rattle.std.proofs.lemmas.List.{take_all, length-take, take-take, take-append-drop}
-use Rattle.columns.specs.Numbers.{number, Begins, Broken, Holds}
+use Rattle.std.proofs.lemmas.List.{length-take, take-take}
+use Rattle.columns.specs.Numbers.{Begins, Broken}
 use Rattle.columns.specs.Lines.{letter, due_letter}
 use Rattle.reader.specs.Items.{Item, first, ranged, close, width, Opens, along, named, Halts}
 use Rattle.faults.specs.declared.Position.{Position}
@@ -17,7 +17,7 @@ use Rattle.columns.specs.declared.line.Kind.TheVariants as kind
 use Rattle.columns.specs.declared.line.Due.{Due}
 use Rattle.columns.specs.declared.line.Due.TheVariants.{Table, Start, Matrix, End, Close, Nothing}
 use Rattle.faults.specs.declared.ColumnFault.{ColumnFault}
-use Rattle.faults.specs.declared.LineFault.TheVariants.{Column, Ends, Unexpected}
+use Rattle.faults.specs.declared.LineFault.TheVariants.{Column, Unexpected}
 
 -- what holds where a `?` returns
 pub exits : {T E : Type 0} (r : Result T E) (e : E) (P : T → Type 0) (Q : E → Type 0) → IsErrAnd r (λ y. y ≡ e) → Q e → MatchResult r P Q
@@ -33,10 +33,6 @@ pub or_err : {A D E : Type 0} (r : Result A D) (P : A → Type 0) (Q : Type 0) {
 or_err (Ok x) P Q e h m = cc
 or_err (Err d) P Q e h m = (cc, m)
 
-pub or_ok : {A D E : Type 0} (r : Result A D) (P : A → Type 0) (Q : Type 0) {x : A} (e : E) → Ok x ≡ result_or r (Err e) → MatchResult r P (λ _. Q) → P x
-or_ok (Ok y) P Q {x} e h m = let same : y ≡ x = cc in subst P same m
-or_ok (Err d) P Q e h m = cc
-
 pub standing : (p : Position) (n : ℕ) → n ≡ 0 → p ≡ along p n
 standing p n e = λ i. record { line = p.line; column = (sym (add-zero p.column) ∙ ap (λ m. p.column + m) (sym e)) i }
 
@@ -49,11 +45,6 @@ wide : (item : Item) → 0 < width item
 wide (first b) = omega arith
 wide (ranged low high) = omega arith
 wide close = omega arith
-
--- the text ends before the item
-pub ends_none : (item : Item) (p : Position) (rest : List ℕ) → length rest ≡ 0 → Halts item p rest (Ends p)
-ends_none item p [] e = inl (record { short = wide item; opens = opens_none item }, ap Ends (standing p 0 refl))
-ends_none item p (x ∷ xs) e = absurd (omega arith)
 
 -- a first byte that no item of this sort has
 pub breaks_first : (item : Item) (p : Position) (rest : List ℕ) → 0 < length rest → (Opens item (take 1 rest) → ⊥) → Halts item p rest (named item p)
@@ -95,13 +86,3 @@ module _ (rest : List ℕ) (m : ℕ) (p : Position) (low high : ℕ) (fits : m �
         },
         ap Column is,
       )
-
-  pub number_ended : (v : ℕ) → m < 11 → m ≡ length rest → Holds (take m rest) v → Halts (ranged low high) p rest (Ends (along p m))
-  number_ended v short end holds =
-      inl (
-        record { short = omega arith; opens = subst Begins (take_all m rest (omega arith)) holds.begins },
-        ap (λ n. Ends (along p n)) end,
-      )
-
-  pub number_over : (v : ℕ) → m ≡ 11 → Holds (take m rest) v → rest ≡ number v ++ drop m rest
-  number_over v e holds = sym (take-append-drop m rest) ∙ ap (λ l. l ++ drop m rest) (holds.whole (part_long ∙ e))

@@ -1,2 +1,1 @@
-mod Single
 pub mod Verbs

@@ -2,7 +2,7 @@
 use Rattle.std.proofs.Common.{◌≡◌, ℕ, ◌+◌, ◌*◌, ◌≤◌, mul_assoc, mul-le-mul, arith}
 use Rattle.rows.specs.Layout.{table_size}
 use Rattle.rows.specs.declared.table.Shape.{Shape}
-use Rattle.text.specs.Texts.{Limits, text_size}
+use Rattle.text.specs.Texts.{Limits}
 
 -- how many matrix rows and how many of their entries there are at most
 pub most : (n k : ℕ) → Limits n k → (k * n ≤ 96) × (k * n * n ≤ 1536)
@@ -17,13 +17,6 @@ parts_fit n k len e = omega (arith, mul_assoc k n n)
 
 pub block_fits : (n k : ℕ) → Limits n k → table_size n k ≤ 1568
 block_fits n k l = omega (arith, most n k l, mul_assoc k n n, l.states)
-
-pub text_most : (n k : ℕ) → Limits n k → text_size n k ≤ 19593
-text_most n k l =
-    let rows : k * n ≤ 96 = (most n k l).0 in
-    let wide : 24 + 11 * n ≤ 200 = omega (arith, l.states) in
-    let all : k * n * (24 + 11 * n) ≤ 96 * 200 = mul-le-mul {n₂ = 96} rows wide in
-    omega (arith, l.states)
 
 -- a shape is within the limits
 abbrev pub shape_limits : (z : Shape) → Limits z.states z.letters

@@ -1,10 +1,7 @@
 use Rattle.std.proofs.Common.{◌≡◌, sym, ap, ◌∙◌, inl, inr, ⊎_elim, arith}
-use Rattle.columns.proofs.Begun.{cell, cell_blank, cell_digit, put_none, put_more, put_all}
+use Rattle.columns.proofs.Begun.{cell, cell_blank, cell_digit, put_more, put_all}
 use Rattle.columns.proofs.column.put_number.Goals as goal
 use Rattle.columns.proofs.column.put_number.Goals.{then-rest-eq0+then-i-lt10, else-rest-eq0}
-
-pub loop-i-init : goal.loop-i-init
-loop-i-init c = put_none _ _ c.requires.eleven
 
 pub loop-i-preserved : goal.loop-i-preserved
 loop-i-preserved c =

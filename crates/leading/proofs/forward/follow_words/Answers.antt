@@ -1,6 +1,5 @@
-use Rattle.std.proofs.Common.{◌≡◌, length, subst, arith}
-use Rattle.leading.specs.Forward.{WalkedBy}
-use Rattle.leading.proofs.LeadingWords.{walked_trying, trying_walked}
+use Rattle.std.proofs.Common.{length}
+use Rattle.leading.proofs.LeadingWords.{trying_walked}
 use Rattle.leading.proofs.forward.follow_words.Goals as goal
 
 pub loop-i-preserved : goal.loop-i-preserved

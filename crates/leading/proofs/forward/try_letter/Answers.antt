@@ -1,7 +1,5 @@
-use Rattle.std.proofs.Common.{◌≡◌, ◌+◌, ◌++◌, length, drop, ap, arith}
-use Rattle.std.proofs.lemmas.List.{length-take-le, length-append}
-use Rattle.rows.proofs.Slices.{length_part}
-use Rattle.spanning.specs.Places.{coefficients_at}
+use Rattle.std.proofs.Common.{◌≡◌, length, ap, arith}
+use Rattle.std.proofs.lemmas.List.{length-take-le}
 use Rattle.leading.proofs.LeadingWords.{stairs, ones, tried_skip, tried_keep}
 use Rattle.leading.proofs.forward.try_letter.Goals as goal
 

@@ -4,8 +4,34 @@ use Rattle.rows.specs.Memory.{at, square_at}
 use Rattle.rows.proofs.Memory.{at_read, at_set_same, at_set_other}
 use Rattle.rows.proofs.Parts.{at_first}
 use Rattle.elimination.specs.Elimination.{Remainder}
-use Rattle.leading.proofs.TrackedRows.{combination, new_room, new_tracked, echelon_wide}
+use Rattle.leading.proofs.TrackedRows.{combination, new_room, new_tracked}
 use Rattle.leading.proofs.tracking.track_row.Goals as goal
+
+pub returns-in_err-pivot : goal.returns-in_err-pivot
+returns-in_err-pivot g c =
+    let K = g.F.Field.field in let v = g.F.Field.value in
+    let a = c.args in
+    let p : ℕ → ℕ = λ b. get_or a.pivots.now b 0 in
+    let count = length a.pivots.now in
+    let q = square_at K v a.tracked.now 0 32 in
+    let ys = c.reduce_row.new.row in
+    let left = subst (λ m. Remainder K m count (square_at K v a.tracked.now 0 m) p (at K v a.row.now) (at K v ys)) c.requires.wide c.reduce_row.ensures.remainder in
+    let few : length (take a.d ys) ≡ a.d = length-take-le a.d ys (omega arith) in
+    rw c.from_residual.ensures
+    record {
+      combination_or_new_row = λ ps t. combination K a.d count ps q p (omega arith) (omega arith) t (at K v a.row.now) (at K v ys) left c.requires.no_coefficients (λ i l. sym (at_first K v a.d ys i l) ∙ c.in_err-pivot.ensures.first_or_all_zero i (omega arith));
+      pivot_and_room = omega arith;
+    }
+
+pub returns-in_err-factor : goal.returns-in_err-factor
+returns-in_err-factor g c =
+    let K = g.F.Field.field in let v = g.F.Field.value in
+    let ys = c.reduce_row.new.row in
+    let f = c.in_ok-pivot.ensures.first_or_all_zero in
+    let few : length (take c.args.d ys) ≡ c.args.d = length-take-le c.args.d ys (omega arith) in
+    let within = f.within in
+    let read = at_read K v ys _ c.index-row-pivot.result (omega arith) c.index-row-pivot.is in
+    absurd (f.apart (at_first K v c.args.d ys c.in_ok-pivot.pivot (omega arith) ∙ sym read ∙ c.in_err-factor.ensures.is_inverse_unless_zero))
 
 pub bounds-row-pivots : goal.bounds-row-pivots
 bounds-row-pivots g c =

@@ -1,6 +1,6 @@
-use Rattle.std.proofs.Common.{◌∷◌, sym, refl, ap, ◌∙◌, arith}
+use Rattle.std.proofs.Common.{◌∙◌, arith}
 use Rattle.std.proofs.lemmas.Option.{MatchOption-at_some}
-use Rattle.reader.proofs.Moves.{exits, ends_none, no_head, no_kind, ok_or_err, or_err, or_ok}
+use Rattle.reader.proofs.Moves.{exits, no_head, no_kind, or_err}
 use Rattle.reader.proofs.Reader.head.Goals as goal
 
 pub returns-in_err-kind : goal.returns-in_err-kind

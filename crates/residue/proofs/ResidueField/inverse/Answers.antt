@@ -1,17 +1,12 @@
 use Rattle.std.proofs.Common.{◌≡◌, ◌∙◌, arith, rules}
 use Rattle.residue.specs.Prime.{Prime}
 use Rattle.field.specs.Below.{same_below}
-use Rattle.residue.specs.Residues.{on_way, onward}
+use Rattle.residue.specs.Residues.{onward}
 use Rattle.residue.proofs.Inverse.{inverse_found}
 use Rattle.residue.proofs.ResidueField.inverse.Goals as goal
 
 pub returns-then-self-eq0 : goal.returns-then-self-eq0
 returns-then-self-eq0 g c = record { is_inverse_unless_zero = same_below _ _ c.if-self-eq0.true }
-
-pub loop-r-init : goal.loop-r-init
-loop-r-init g c =
-    let pr : Prime g.row.P = search rules in
-    on_way g.row.P pr c.args.self.n (omega arith) c.args.self.below
 
 pub loop-r-preserved : goal.loop-r-preserved
 loop-r-preserved g c =

@@ -1,4 +1,4 @@
-use Rattle.std.proofs.Common.{◌+◌, ◌*◌, [], ◌∷◌, ◌++◌, refl, arith, length-append, ◌≡◌, sym, ap₂, subst}
+use Rattle.std.proofs.Common.{◌+◌, ◌*◌, [], ◌∷◌, ◌++◌, refl, arith, ◌≡◌, sym, ap₂, subst}
 use Rattle.walk.specs.Comparing.{AllAlike}
 use Rattle.walk.specs.Pairs.{width, left_table, right_table}
 use Rattle.walk.specs.Walking.{kept}
@@ -20,15 +20,6 @@ returns-in-Err g c =
       alike_only_if_all_weigh_alike = λ n. absurd n;
       alike_if_all_weigh_alike = difference_refutes K S T [] 1 w.left w.right d;
     }
-
-pub spell-requires : goal.spell-requires
-spell-requires g c =
-    let f = c.in-Err-try_rest.ensures.through_or_found in
-    let r = c.in-Err-try_rest.f.last in
-    let few = f.few in
-    let short = f.difference.short in
-    let long = length-append (f.words r.parent) (r.letter ∷ []) in
-    record { spellable = record { words = f.words; linked = f.linked; inside = f.inside; few = omega arith; fits = omega arith } }
 
 pub returns-in-Err-try_rest : goal.returns-in-Err-try_rest
 returns-in-Err-try_rest g c =

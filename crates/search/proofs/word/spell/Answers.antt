@@ -1,30 +1,8 @@
-use Rattle.std.proofs.Common.{◌≡◌, ◌+◌, ◌-◌, ◌<◌, [], ◌∷◌, ◌++◌, length, take, replicate, reverse, refl, sym, ap, ap₂, ◌∙◌, arith, length-append}
+use Rattle.std.proofs.Common.{◌≡◌, ◌<◌, ◌++◌, length, take, reverse, sym, ap, ◌∙◌, arith}
 use Rattle.std.proofs.lemmas.List.{length-set}
 use Rattle.walk.specs.Walking.{kept, link_at}
 use Rattle.search.proofs.Spellings.{linked_longer, letter_written, zeros_behind}
 use Rattle.search.proofs.word.spell.Goals as goal
-
-pub loop-j-init : goal.loop-j-init
-loop-j-init c = record {
-  inside = c.requires.spellable.inside;
-  long = refl;
-  some = omega arith;
-  few = omega arith;
-  zeros = refl;
-  lengths = λ words l. refl;
-  spelt = λ words l. refl;
-}
-
-pub bounds-letters-length : goal.bounds-letters-length
-bounds-letters-length c =
-    let p = c.requires.spellable in
-    let w = c.args.walk.now in
-    let i = c.loop-j.invariant in
-    let more = linked_longer (kept w) p.words w.links.items p.linked c.loop-j.j c.loop-j-test.true i.inside in
-    let so_far = i.lengths p.words p.linked in
-    let fits = p.fits in
-    let long = i.long in
-    omega arith
 
 pub loop-j-preserved : goal.loop-j-preserved
 loop-j-preserved c =
@@ -51,29 +29,4 @@ loop-j-preserved c =
       zeros = zeros_behind link.letter n c.loop-j.letters room i.zeros;
       lengths = λ words l. let longer = linked_longer (kept w) words w.links.items l j some i.inside in let before = i.lengths words l in omega arith;
       spelt = λ words l. letter_written (words link.parent) _ link.letter n c.loop-j.letters (omega arith) (ap (λ q. q ++ reverse (take n c.loop-j.letters)) (sym (l.follows j some i.inside)) ∙ i.spelt words l);
-    }
-
-pub returns : goal.returns
-returns c =
-    let i = c.loop-j.invariant in
-    let n = c.loop-j.length in
-    let none : c.loop-j.j ≡ 0 = omega arith in
-    let inside = i.inside in
-    record {
-      spells_word = λ words l.
-          let u = words c.args.last.parent in
-          let w = u ++ c.args.last.letter ∷ [] in
-          let first : words c.loop-j.j ≡ [] = ap words none ∙ l.root (omega arith) in
-          let long : length w ≡ length u + 1 = length-append u (c.args.last.letter ∷ []) in
-          let before = i.lengths words l in
-          let empty = ap length first in
-          let same : n ≡ length w = omega arith in
-          let few = i.few in
-          record {
-            fits = omega arith;
-            length_is = same;
-            letters_are =
-                ap₂ (λ p q. p ++ q) (c.reverse.ensures.after ∙ ap (λ q. q ++ reverse (take n c.loop-j.letters)) (sym first) ∙ i.spelt words l)
-                (i.zeros ∙ ap (λ m. replicate (31 - m) 0) same);
-          };
     }
