@@ -1,6 +1,5 @@
-use Rattle.std.proofs.Common.{arith}
 use Rattle.walk.specs.Pairs.{left_table, right_table}
-use Rattle.walk.proofs.WalkSteps.{passed_ready, ready_passed}
+use Rattle.walk.proofs.WalkSteps.{ready_passed}
 use Rattle.walk.proofs.walk.try_rest.Goals as goal
 
 pub loop-i-preserved : goal.loop-i-preserved
