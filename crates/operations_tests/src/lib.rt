@@ -23,6 +23,7 @@ mod tests {
 
     // What is tried over one field: a table of two states and one of one state, both of two letters, by their codes, the code
     // of a factor, and the weights that are expected.
+    #[derive(Clone, Copy)]
     struct Case {
         first: [u64; 12],
         second: [u64; 4],
@@ -243,13 +244,7 @@ mod tests {
             ],
         };
         let zero = Bit::zero();
-        check_case(
-            &rt,
-            &mut [zero; 30],
-            &mut [zero; 64],
-            &mut [zero; 8],
-            &case,
-        )
+        check_case(&rt, &mut [zero; 30], &mut [zero; 64], &mut [zero; 8], &case)
     }
 
     #[test]
@@ -267,13 +262,7 @@ mod tests {
             ],
         };
         let zero = Byte::zero();
-        check_case(
-            &rt,
-            &mut [zero; 30],
-            &mut [zero; 64],
-            &mut [zero; 8],
-            &case,
-        )
+        check_case(&rt, &mut [zero; 30], &mut [zero; 64], &mut [zero; 8], &case)
     }
 
     // Residues, and the field in which several elements stand for one value, give the same codes.
@@ -292,20 +281,8 @@ mod tests {
             ],
         };
         let zero = Fermat::zero();
-        check_case(
-            &rt,
-            &mut [zero; 30],
-            &mut [zero; 64],
-            &mut [zero; 8],
-            &case,
-        )?;
+        check_case(&rt, &mut [zero; 30], &mut [zero; 64], &mut [zero; 8], &case)?;
         let zero = Loose::<65537>::zero();
-        check_case(
-            &rt,
-            &mut [zero; 30],
-            &mut [zero; 64],
-            &mut [zero; 8],
-            &case,
-        )
+        check_case(&rt, &mut [zero; 30], &mut [zero; 64], &mut [zero; 8], &case)
     }
 }

@@ -52,7 +52,10 @@ impl fmt::Display for Told<'_> {
     fn fmt<W: fmt::Write>(&self, f: &mut fmt::Formatter<W>) -> fmt::Result {
         let Told { name, order, done } = self;
         let (before, after, bytes) = (done.before, done.after, done.bytes);
-        writeln!(f, "{name}: {before} states packed to {after} over GF({order}), {bytes} bytes")?;
+        writeln!(
+            f,
+            "{name}: {before} states packed to {after} over GF({order}), {bytes} bytes"
+        )?;
         let (tried, kept) = (done.verdict.tried, done.verdict.kept);
         write!(f, "all words weigh alike: {tried} tried, {kept} kept")
     }

@@ -65,7 +65,10 @@ mod tests {
         requires room { 8192 ≤ length work.old }
     {
         let (tried, kept) = counts;
-        assert_eq!(rt; compare(work, Pair { left, right }), Comparison::Alike { tried, kept });
+        assert_eq!(rt;
+            compare(work, Pair { left, right }),
+            Comparison::Alike { tried, kept }
+        );
         Ok(())
     }
 
@@ -167,7 +170,12 @@ mod tests {
             work,
             left,
             right,
-            &[1, 2, 1, 2, 1, 2, 1, 2, 1, 2, 1, 2, 1, 2, 1, 2, 1, 2, 1, 2, 1, 2, 1, 2, 1, 2, 1, 2, 1, 2, 1], 62, (55513, 55512),
+            &[
+                1, 2, 1, 2, 1, 2, 1, 2, 1, 2, 1, 2, 1, 2, 1, 2, 1, 2, 1, 2, 1, 2, 1, 2, 1, 2, 1, 2,
+                1, 2, 1,
+            ],
+            62,
+            (55513, 55512),
         )?;
         check_alike(rt, work, left, left, (33, 16))
     }
@@ -209,13 +217,7 @@ mod tests {
         )?;
         let left = table(&shelf, 0, 3, 1);
         let right = table(&shelf, 15, 2, 1);
-        check_differ(
-            &rt,
-            &mut work,
-            left,
-            right,
-            &[1, 1, 1, 1], 5, (1, 0),
-        )?;
+        check_differ(&rt, &mut work, left, right, &[1, 1, 1, 1], 5, (1, 0))?;
         // one state that stays, and two that take turns and weigh the same
         let mut shelf = [Bit::zero(); 64];
         put(
@@ -267,7 +269,9 @@ mod tests {
             &mut work,
             left,
             right,
-            &[1, 2, 1, 2, 1], 10, (255, 254),
+            &[1, 2, 1, 2, 1],
+            10,
+            (255, 254),
         )?;
         // a table, and the same in another basis with a state that is never reached
         let mut shelf = [Byte::zero(); 64];
@@ -331,13 +335,7 @@ mod tests {
         let powers = table(&shelf, 13, 1, 1);
         let zeros = table(&shelf, 40, 1, 1);
         check_alike(&rt, &mut work, ones, ones, (2, 1))?;
-        check_differ(
-            &rt,
-            &mut work,
-            ones,
-            powers,
-            &[1], 2, (1, 2),
-        )?;
+        check_differ(&rt, &mut work, ones, powers, &[1], 2, (1, 2))?;
         check_differ(&rt, &mut work, zeros, ones, &[], 1, (0, 1))
     }
 

@@ -38,7 +38,11 @@ impl fmt::Display for Found {
                 left,
                 right,
             } => {
-                write!(f, "the first word that differs has {} letters, ", word.length)?;
+                write!(
+                    f,
+                    "the first word that differs has {} letters, ",
+                    word.length
+                )?;
                 write!(f, "weighs {left} and {right}, and is the {tried}th tried")
             }
         }
