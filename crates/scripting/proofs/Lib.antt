@@ -1,1 +1,3 @@
 pub mod Verbs
+pub mod Onward
+pub mod Silence

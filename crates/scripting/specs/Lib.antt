@@ -5,5 +5,6 @@ pub mod Calling
 pub mod Arguments
 pub mod Mistakes
 pub mod Making
-pub mod Judging
 pub mod Telling
+pub mod Reading
+pub mod Judging

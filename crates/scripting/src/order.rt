@@ -1,10 +1,10 @@
 //! What single lines of a script say.
-ghost use Rattle.std.specs.Prelude.{◌≡◌, [], ◌∷◌, IfOk, OnOk};
+ghost use Rattle.std.specs.Prelude.{◌≡◌, [], ◌∷◌, IfOk, OnOk, OnErr};
 ghost use Rattle.command.specs.Choices.{q_of};
 ghost use Rattle.scripting.specs.Splitting.{Blank, NextWord};
 ghost use Rattle.scripting.specs.Numerals.{Numbers};
 ghost use Rattle.scripting.specs.Calling.{verb_of};
-ghost use Rattle.scripting.specs.Arguments.{Arguments, Opened, Says};
+ghost use Rattle.scripting.specs.Arguments.{Arguments, Opened, Says, Silent};
 ghost use Rattle.scripting.specs.declared.verb.Verb.TheVariants.{Weigh};
 
 use crate::decimal::number;
@@ -185,8 +185,11 @@ fn call(heap: Global, verb: Verb, line: &[u8]) -> Result<Call<Vec<u8>>, Reason>
 }
 
 /// What a line says; a blank line and a comment say nothing.
+// The lemma shows, wherever the line is refused, that it is neither blank nor a comment.
+#[tactic(auto, using(crate::proofs::Silence::spoken))]
 pub fn read_line(heap: Global, line: &[u8]) -> Result<Option<Said<'_>>, Reason>
     ensures says { IfOk result (λ s. Says line.now s) }
+    ensures spoken { OnErr result (Silent line.now → ⊥) }
 {
     let Some((first, rest)) = next_word(line) else {
         return Ok(None);

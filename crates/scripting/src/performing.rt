@@ -5,7 +5,7 @@ ghost use Rattle.book.specs.Verdicts.{unwritten};
 ghost use Rattle.shelf.specs.Views.{state, shelf_of};
 ghost use Rattle.scripting.specs.Making.{Makes};
 ghost use Rattle.scripting.specs.Mistakes.{mistakes_of};
-ghost use Rattle.scripting.specs.Judging.{Judged};
+ghost use Rattle.scripting.specs.Judging.{Judged, JudgedAsRead};
 ghost use Rattle.scripting.specs.Telling.{told_line};
 ghost use Rattle.scripting.specs.declared.performing.Failure.TheVariants.{NoMemory};
 
@@ -216,8 +216,10 @@ pub fn run(heap: Global, script: &Script) -> Result<Vec<u8>, Failure>
 }
 
 /// Reads and performs a script that names no file.
-// As for `read` and `perform`: what they leave open is tested.
-pub fn run_script(heap: Global, script: &[u8]) -> Result<Vec<u8>, Failure> {
+// As for `perform`: how outcomes are worded is tested.
+pub fn run_script(heap: Global, script: &[u8]) -> Result<Vec<u8>, Failure>
+    ensures judged { JudgedAsRead script.now result }
+{
     let script = read(heap, script)?;
     run(heap, &script)
 }

@@ -1,7 +1,8 @@
 //! A whole script, read line by line.
-ghost use Rattle.std.specs.Prelude.{◌≡◌, ◌<◌, ◌≤◌, length, take, IfOk};
+ghost use Rattle.std.specs.Prelude.{◌≡◌, ◌<◌, ◌≤◌, ◌++◌, length, take, IfOk, OnOk, OnErr, IsErr, MatchResult};
 ghost use Rattle.std.specs.Option.{option_map};
 ghost use Rattle.scripting.specs.Splitting.{First, Later, Block};
+ghost use Rattle.scripting.specs.Reading.{ReadAs, FirstLine, GoesOn, Loads, Comes, Fails, NoBlock, NoLoad, texts_in, entered};
 ghost use Rattle.scripting.specs.Mistakes.{mistakes_of, file_in, given_text};
 
 use crate::mistake::{Mistake, Reason};
@@ -37,7 +38,9 @@ pub struct Script {
 type Texts<'a> = BTreeMap<&'a [u8], &'a [u8]>;
 
 // The load of a text by its name: one that was given, else a file.
-fn load<'a>(heap: Global, texts: &Texts<'a>, name: &'a [u8], to: usize) -> Result<Entry, Reason> {
+fn load<'a>(heap: Global, texts: &Texts<'a>, name: &'a [u8], to: usize) -> Result<Entry, Reason>
+    ensures loads { MatchResult result (λ e. Loads (texts_in texts.now name.now) name.now to e) (λ r. NoLoad (texts_in texts.now name.now) name.now r) }
+{
     if let Some(bytes) = texts.get(&name) {
         let text = bytes.to_vec(heap)?;
         return Ok(Entry::Order(Order::Call(Call::Load { text, to })));
@@ -52,6 +55,7 @@ fn split_line(bytes: &[u8]) -> (&[u8], &[u8])
     ensures first { First 10 bytes.now (length result.0.now) }
     ensures line { result.0.now ≡ take (length result.0.now) bytes.now }
     ensures later { Later bytes.now result.1.now }
+    ensures first_line { 0 < length bytes.now → FirstLine bytes.now result.0.now result.1.now }
     ensures shorter { 0 < length bytes.now → length result.1.now < length bytes.now }
 {
     let (line, rest) = bytes.split_at(before(bytes, b'\n'));
@@ -60,7 +64,7 @@ fn split_line(bytes: &[u8]) -> (&[u8], &[u8])
 
 // So many bytes that a newline or the end follows.
 fn block(bytes: &[u8], size: usize) -> Result<&[u8], Reason>
-    ensures block { IfOk result (λ t. Block bytes.now size t.now) }
+    ensures block { MatchResult result (λ t. Block bytes.now size t.now) (λ r. NoBlock bytes.now size r) }
 {
     let (text, rest) = bytes.split_at_checked(size).ok_or(Reason::TextCutShort)?;
     match rest {
@@ -74,12 +78,15 @@ fn entry_of<'a>(
     heap: Global,
     texts: &mut Texts<'a>,
     said: Result<Option<Said<'a>>, Reason>,
-    rest: &'a [u8],
-) -> Result<Option<Entry>, Reason> {
+    after: &'a [u8],
+) -> Result<Option<Entry>, Reason>
+    ensures comes { MatchResult said.entry (λ s. MatchResult result (λ e. Comes (texts_in texts.old) after.now s (texts_in texts.new) e) (λ r. Fails (texts_in texts.old) after.now s r)) (λ _. IsErr result) }
+    ensures kept { OnErr result (texts_in texts.new ≡ texts_in texts.old) }
+{
     match said? {
         None => Ok(None),
         Some(Said::Text { name, size }) => {
-            texts.insert(name, block(rest, size)?)?;
+            texts.insert(name, block(after, size)?)?;
             Ok(None)
         }
         Some(Said::Load { name, to }) => Ok(Some(load(heap, texts, name, to)?)),
@@ -87,22 +94,41 @@ fn entry_of<'a>(
     }
 }
 
-// How many of the bytes that follow a line belong to it: those of a text, with the rest of the line that it ends in.
-fn belonging(said: &Result<Option<Said<'_>>, Reason>, rest: &[u8]) -> usize
-    ensures within { result ≤ length rest.now }
+// Where reading goes on: behind the bytes of a text and the rest of the line that they end in, else right after the line.
+fn behind<'a>(said: &Result<Option<Said<'_>>, Reason>, after: &'a [u8]) -> &'a [u8]
+    ensures goes_on { MatchResult said.now (λ s. GoesOn s after.now result.now) (λ _. result.now ≡ after.now) }
+    ensures within { length result.now ≤ length after.now }
 {
     match said {
-        Ok(Some(Said::Text { size, .. })) => {
-            let end = rest.len().min(*size);
-            rest.len() - split_line(&rest[end..]).1.len()
-        }
-        _ => 0,
+        Ok(Some(Said::Text { size, .. })) => split_line(after.get(*size..).unwrap_or(&[])).1,
+        _ => after,
     }
 }
 
-/// Reads a script.
-// Which text a name stands for, and how lines are counted, is not stated; stored scripts test it.
-pub fn read(heap: Global, script: &[u8]) -> Result<Script, AllocError> {
+// Adds the line of that number, if it has an entry; a reason, as a mistake.
+fn enter(
+    lines: &mut Vec<Line>,
+    number: usize,
+    entry: Result<Option<Entry>, Reason>,
+) -> Result<(), AllocError>
+    ensures entered { OnOk result (lines.new.items ≡ lines.old.items ++ entered number entry) }
+{
+    match entry {
+        Ok(None) => {}
+        Ok(Some(entry)) => lines.push(Line { number, entry })?,
+        Err(reason) => {
+            let entry = Entry::Mistaken(reason);
+            lines.push(Line { number, entry })?
+        }
+    }
+    Ok(())
+}
+
+/// Reads a script: its lines by their numbers, each load with the text that was given last under its name.
+// That no right line is refused is stated of blank lines and comments alone; tests show it of the others.
+pub fn read(heap: Global, script: &[u8]) -> Result<Script, AllocError>
+    ensures read { IfOk result (λ s. ReadAs script.now s.lines.items) }
+{
     let mut lines = Vec::new(heap);
     let mut texts = BTreeMap::new(heap);
     let mut rest = script;
@@ -110,16 +136,11 @@ pub fn read(heap: Global, script: &[u8]) -> Result<Script, AllocError> {
     while !rest.is_empty() {
         let (line, after) = split_line(rest);
         let said = read_line(heap, line);
-        let (text, next) = after.split_at(belonging(&said, after));
-        match entry_of(heap, &mut texts, said, after) {
-            Ok(None) => {}
-            Ok(Some(entry)) => lines.push(Line { number, entry })?,
-            Err(reason) => {
-                let entry = Entry::Mistaken(reason);
-                lines.push(Line { number, entry })?
-            }
-        }
-        number = number.saturating_add(newlines(text)).saturating_add(1);
+        let next = behind(&said, after);
+        let entry = entry_of(heap, &mut texts, said, after);
+        enter(&mut lines, number, entry)?;
+        let (passed, _) = rest.split_at(rest.len() - next.len());
+        number += newlines(passed);
         rest = next;
     }
     Ok(Script { lines })
