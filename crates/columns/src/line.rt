@@ -89,6 +89,7 @@ pub fn turn(due: Due, kind: Kind, rows: usize) -> Option<Due>
 }
 
 /// Writes a line: its first byte, the values in their columns, and byte 10.
+// At most ten digits, told by a clause here and above: numbers come from iterators, whose items a type would convert one by one.
 pub fn put_line<I: Iterator<Item = u64> + Drop>(out: &mut [u8], first: u8, values: I)
     requires can { I.can_next values }
     requires ends { IsFinite (I.remaining values) }

@@ -16,6 +16,7 @@ pub const TRACKED: usize = 2 * WIDTH;
 /// Reduces the row, which has d numbers in front and no coefficients yet, by the tracked rows, as many as there are pivots. If a
 /// number is left, makes it one at a pivot, which is answered; if none is, the row's coefficients are the opposites of those that
 /// it then has.
+// 32 elements, told by a clause: rows are parts of work memory that ranges cut off, and an array would be taken of each once more.
 // Not one with elimination's `keep_row`, which reduces a copy behind the others, seeks a pivot among all entries, and notes no factor.
 pub fn track_row<F: Field>(
     row: &mut [F],

@@ -42,7 +42,7 @@ fn put_refused(out: &mut [u8; LONGEST], text: u8, refusal: &Refusal) -> usize
     put_in_front(out, b'R', &values, b"")
 }
 
-// Writes the line of a verdict: how many bytes it has.
+// Writes the line of a verdict: how many bytes it has. That it fits stays a clause: the record is the book's, which knows no line.
 fn put_verdict(out: &mut [u8; LONGEST], verdict: &Verdict) -> usize
     requires fits { Fits verdict.now }
     ensures told { AtFront (verdict_line verdict.now.kind verdict.now) out.old result out.new }

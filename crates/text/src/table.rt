@@ -40,6 +40,7 @@ fn body<F: Field>(
 }
 
 /// Reads the table of a text into the front of `work`: its shape, or why the text is refused.
+// Room for the largest table, told by a clause: how large it is, is known once it is read.
 pub fn read_table<F: Field>(text: &[u8], work: &mut [F]) -> Result<Shape, LoadFault>
     requires room { 1568 ≤ length work.old }
     ensures accepted_or_refused { MatchResult result (λ shape. Accepts F.field F.value text.now shape work.new) (λ f. Refuses F.field text.now f) }

@@ -4,6 +4,7 @@ use faults::Position;
 use std::io;
 
 /// Prints what the columns hold, or the column that cannot stand.
+// A function: a `Display` would be of a result of two types of other crates.
 fn show(rt: HostRuntime, bytes: &[u8; 11]) -> io::Result<()> {
     let start = Position {
         line: 7,

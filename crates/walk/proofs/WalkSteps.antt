@@ -82,9 +82,6 @@ module _ {F V : Type 0} (K : FiniteField V) (v : F → V) (S T : Table V) where
       }
 
   -- from word to word
-  pub passed_ready : (i : ℕ) (w : Walk) (rs es : List F) → Passed K v S T i w rs es → i < kept w → Ready K v S T i 1 w rs es
-  passed_ready i w rs es p l = record { words = p.words; held = p.held; linked = p.linked; few = p.few; inside = l; scanned = p.next l }
-
   pub ready_passed : (i : ℕ) (w : Walk) (rs es : List F) → Ready K v S T i (S.letters + 1) w rs es → Passed K v S T (i + 1) w rs es
   ready_passed i w rs es r =
       let k = S.letters in

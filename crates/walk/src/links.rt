@@ -4,7 +4,7 @@ ghost use Rattle.std.specs.Prelude.{◌≡◌, ◌<◌, length};
 use arrayvec::ArrayVec;
 
 /// A word by the number of the kept word that it is without its last letter, and that letter. The empty word's is never read.
-// By a number, since there is no heap for words that hold one another.
+// By a number, since there is no heap for words that hold one another; no `Option`, since only the empty word has no link.
 #[derive(Clone, Copy, Debug, Default, PartialEq, Eq)]
 pub struct Link {
     pub parent: usize,

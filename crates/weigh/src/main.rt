@@ -46,7 +46,7 @@ fn weight_code<F: Field>(
     weigh(table, word, rows).map(F::code)
 }
 
-// What stands at a position, from 1, of a line.
+// What stands at a position, from 1, of a line; no printing of a type, since it is a byte that is no letter.
 fn shown(line: &[u8], position: usize) -> char
     ensures at_position { 1 ≤ position → MatchOption (slice_get line.now (position - 1)) (result ≡ 63) (λ b. result ≡ b) }
 {
