@@ -43,7 +43,7 @@ pub fn put_number(columns: &mut [u8], value: u64)
 {
     let mut rest = value;
     // Backwards by an index: of what a loop over `iter_mut().rev()` wrote nothing is known, and from the front, with
-    // `enumerate`, each column would need its own power of ten, which is no plainer (and took six times as long).
+    // `enumerate`, each column would need its own power of ten, which is no plainer (and took four to six times as long).
     for i in (0..11).rev() {
         columns[i] = if rest == 0 && i < 10 {
             b' '

@@ -10,6 +10,7 @@ use std::io::{ErrorKind, Read};
 
 /// How many bytes of a file the programs read at most: one more than the longest text of a table has, so that more bytes
 /// than that are seen and refused.
+// A number: this crate stands on no writer, which has a name for the longest text.
 pub const MOST: usize = 19594;
 
 /// What a file holds, up to so many bytes.

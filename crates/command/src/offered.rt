@@ -22,6 +22,7 @@ pub struct NotOffered;
 
 impl Offered {
     /// How many elements the field has.
+    // A method, as a refusal's number: its name says what the number is.
     pub fn order(self) -> u64
         ensures told { result ≡ q_of self }
     {

@@ -147,6 +147,7 @@ fn try_empty<F: Field>(rows: &mut [F], tracked: &mut [F], pivots: &mut Pivots, v
 
 /// Finds the leading words, in order, with their rows, 16 elements each, and the coefficients of each followed by each letter.
 /// Answers how many there are. `tracked` is for the search.
+// So long by a clause, here and above: each is a part of work memory, cut off by a range.
 pub fn leading_words<F: Field>(
     rows: &mut [F],
     tracked: &mut [F],

@@ -14,7 +14,7 @@ Judged (Ok shown) ms = ms ≡ []
 Judged (Err (Mistaken found)) ms = (vec_items found ≡ ms) × (ms ≡ [] → ⊥)
 Judged (Err (NoMemory e)) ms = Unit {0}
 
--- the lines that the script is read as are judged; where there is no memory for them, nothing is said
+-- the lines that the script is read as are judged; where there is no memory, nothing is said
 abbrev pub JudgedAsRead : List ℕ → Result (Vec ℕ Global) Failure → Type 0
 JudgedAsRead script (Err (NoMemory e)) = Unit {0}
 JudgedAsRead script result = (lines : List Line) × ReadAs script lines × Judged result (mistakes_of lines)

@@ -33,7 +33,7 @@ pub record StandsFor (old : Texts) (name text : List ℕ) (new : Texts) : Type 0
   pub this : new name ≡ Some text
   pub others : (other : List ℕ) → other ≢ name → new other ≡ old other
 
--- the first line of the bytes, and what follows its newline
+-- the first line of the bytes, of which there are some, and what follows its newline
 pub record FirstLine (bytes line after : List ℕ) : Type 0 where
   pub more : 0 < length bytes
   pub count : ℕ

@@ -198,6 +198,7 @@ pub fn read_line(heap: Global, line: &[u8]) -> Result<Option<Said<'_>>, Reason>
         return Ok(None);
     }
     let verb = Verb::try_from(first)?;
+    // An enum and its match: with a function for each verb, each would have to be told in the promise.
     match verb {
         Verb::Field => Ok(Some(Said::Order(Order::Field(field(rest)?)))),
         Verb::Open => {

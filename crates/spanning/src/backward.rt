@@ -95,6 +95,7 @@ fn try_end<F: Field>(
 
 /// Finds columns that span the columns of all words, and answers how many there are. Each takes 16 elements of `columns`, where
 /// there is room for one more than there can be; `echelon` is for the search.
+// So long by a clause: columns and rows are parts of work memory, cut off by ranges.
 pub fn spanning_columns<F: Field>(
     columns: &mut [F],
     echelon: &mut [F],

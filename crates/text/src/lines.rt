@@ -15,6 +15,7 @@ use reader::Reader;
 use rows::table::Shape;
 
 /// Goes over a number for each of the values, of just that value.
+// At most 16, told by a clause, also below: a row that is read line by line is a slice, whose length no `Shape` tells.
 fn exactly(reader: &mut Reader<'_>, values: &[u64]) -> Result<(), LoadFault>
     requires able { Able reader.old }
     requires narrow { reader.old.position.column ≤ 100 }

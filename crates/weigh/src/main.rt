@@ -54,7 +54,7 @@ fn shown(line: &[u8], position: usize) -> char
         .map_or('?', |b| char::from(*b))
 }
 
-// Where and why a table is refused; in two cases in words of this program's own, which it keeps.
+// Where and why a table is refused; in two cases in words of this program's own, which point at the position before them.
 #[derive(Clone, Copy)]
 struct Refused(LoadFault);
 
