@@ -42,6 +42,7 @@ const PACK: Program<'static> = Program {
 };
 
 // What was done with the text of a file, over a field of so many elements.
+#[derive(Clone, Copy)]
 struct Told<'a> {
     name: &'a str,
     order: u64,
@@ -61,11 +62,11 @@ impl fmt::Display for Told<'_> {
     }
 }
 
-// Where, if it is at fault itself, and why a text is refused.
+// Why a text is refused, and where, if the text itself is at fault.
 #[derive(Clone, Copy)]
-struct Refused(Refusal);
+struct Why(Refusal);
 
-impl fmt::Display for Refused {
+impl fmt::Display for Why {
     fn fmt<W: fmt::Write>(&self, f: &mut fmt::Formatter<W>) -> fmt::Result {
         if let Some(at) = self.0.position() {
             write!(f, "{at}: ")?;
@@ -78,7 +79,7 @@ impl fmt::Display for Refused {
 fn refused(rt: &HostRuntime, name: &str, refusal: Refusal) -> anyhow::Error
     ensures meant { HasMessage (Some (codes "the text is refused")) result }
 {
-    failed(rt, name, Refused(refusal), "the text is refused")
+    failed(rt, name, Why(refusal), "the text is refused")
 }
 
 // Writes the packed text to the second file, or else to standard output.
