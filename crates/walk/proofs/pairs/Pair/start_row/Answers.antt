@@ -10,5 +10,5 @@ returns g c =
     let T = right_table K v c.args.self in
     let left = c.start.ensures.start_row in
     let right = c.start-2.ensures.start_row in
-    rw c.write_beside.ensures.rows_beside
+    rw (c.copy_from_slice.ensures.after, c.copy_from_slice-2.ensures.after)
     record { pair_row_of_empty_word = pair_written K v S T [] (c.start.result.now ++ c.start-2.result.now) c.start.result.now c.start-2.result.now refl left.len left right }
