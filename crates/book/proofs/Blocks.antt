@@ -4,7 +4,7 @@ use native.Mathlib.Decide.{dec_lt}
 use Rattle.std.proofs.lemmas.Nat.{mul-add-lt}
 use Rattle.field.specs.FiniteField.{FiniteField}
 use Rattle.series.specs.Tables.{Table, SameTable}
-use Rattle.rows.specs.Memory.{at}
+use Rattle.field.specs.Rows.{at}
 use Rattle.rows.specs.Layout.{table_size, matrix_offset, end_offset, table_at}
 use Rattle.rows.proofs.Layouts.{matrix_within, MatrixRow, matrix_row}
 

@@ -3,7 +3,7 @@ use Rattle.std.proofs.Common.{◌≡◌, ℕ, ◌+◌, ◌*◌, ◌<◌, List, l
 use native.Mathlib.Decide.{dec_lt}
 use Rattle.field.specs.FiniteField.{FiniteField}
 use Rattle.series.specs.Tables.{Table, SameTable}
-use Rattle.rows.specs.Memory.{at}
+use Rattle.field.specs.Rows.{at}
 use Rattle.rows.specs.Layout.{table_size, table_at, matrix_offset, end_offset}
 use Rattle.rows.proofs.Memory.{frame_below, frame_above}
 use Rattle.book.specs.Shelves.{empty, filled, Lent, State, at_place, with_place, entry, states_of, letters_of, begins, table}

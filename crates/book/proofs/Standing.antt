@@ -5,7 +5,8 @@ use Rattle.field.specs.FiniteField.{FiniteField}
 use Rattle.series.specs.Words.{Word}
 use Rattle.series.specs.Tables.{Table}
 use Rattle.series.proofs.Weights.{same_weight}
-use Rattle.rows.specs.Memory.{at, Frame}
+use Rattle.field.specs.Rows.{at}
+use Rattle.rows.specs.Memory.{Frame}
 use Rattle.rows.specs.Layout.{table_size, table_at}
 use Rattle.rows.specs.Tables.{Weighs}
 use Rattle.rows.proofs.Memory.{frame_below, frame_above}

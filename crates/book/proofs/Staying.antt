@@ -5,7 +5,8 @@ use lib.ListN.{length-map}
 use Rattle.std.proofs.lemmas.List.{get_or_past}
 use Rattle.field.specs.FiniteField.{FiniteField}
 use Rattle.series.specs.Tables.{SameTable}
-use Rattle.rows.specs.Memory.{at, Frame}
+use Rattle.field.specs.Rows.{at}
+use Rattle.rows.specs.Memory.{Frame}
 use Rattle.rows.specs.Layout.{table_size, table_at}
 use Rattle.rows.proofs.Memory.{at_copied}
 use Rattle.text.specs.Facts.{ToldApart}

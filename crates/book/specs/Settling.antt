@@ -1,7 +1,7 @@
 -- The definitions settle what comes of a call. How many entries a directory has is an argument, which the contract that promises this gives. Assumes nothing.
 use Rattle.std.specs.Prelude.{◌≡◌, ℕ, ◌+◌, ◌<◌, ◌≤◌, List, length, slice_index_or}
 use Rattle.field.specs.FiniteField.{FiniteField}
-use Rattle.rows.specs.Memory.{at}
+use Rattle.field.specs.Rows.{at}
 use Rattle.rows.specs.Layout.{table_size}
 use Rattle.book.specs.Shelves.{State, entry, states_of, letters_of, begins}
 use Rattle.book.specs.Calls.{Call, Among, results}

@@ -4,7 +4,7 @@ use native.Mathlib.Decide.{ℕ_discrete}
 use Rattle.field.specs.FiniteField.{FiniteField}
 use Rattle.field.proofs.Laws.{one_times, times_zero}
 use Rattle.series.specs.EliminationProgress.{Basis}
-use Rattle.series.specs.Tables.{Agree}
+use Rattle.field.specs.Rows.{Agree}
 use Rattle.series.specs.Words.{Word}
 use Rattle.series.proofs.Bases.{basis_more, basis_times}
 use Rattle.elimination.specs.Elimination.{NewRow}

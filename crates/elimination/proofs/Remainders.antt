@@ -3,10 +3,9 @@ use Rattle.std.proofs.Common.{◌≡◌, ℕ, suc, ◌+◌, ◌*◌, ◌<◌, �
 use Rattle.std.proofs.lemmas.Nat.{mul-add-lt}
 use Rattle.field.specs.FiniteField.{FiniteField}
 use Rattle.series.specs.EliminationProgress.{Echelon}
-use Rattle.series.specs.Tables.{Agree}
+use Rattle.field.specs.Rows.{Agree, at, square_at}
 use Rattle.series.proofs.SpanLaws.{span_same, span_span, span_member}
 use Rattle.series.proofs.Echelons.{echelon_few, echelon_more}
-use Rattle.rows.specs.Memory.{at, square_at}
 use Rattle.rows.proofs.Splits.{at_front}
 use Rattle.elimination.specs.Elimination.{Remainder, NothingLeft, NewRow}
 use Rattle.elimination.proofs.Updates.{updated, updated_here, updated_other}

@@ -4,9 +4,8 @@ use Rattle.field.specs.FiniteField.{FiniteField}
 use Rattle.series.specs.EliminationProgress.{Echelon}
 use Rattle.series.specs.Families.{Of}
 use Rattle.series.specs.Spans.{Span}
-use Rattle.series.specs.Tables.{Agree}
+use Rattle.field.specs.Rows.{Agree, square_at}
 use Rattle.rows.specs.Arithmetic.{multiple}
-use Rattle.rows.specs.Memory.{square_at}
 
 -- rows of w entries, one behind the other in xs, as many as there are pivots
 module _ {F V : Type 0} (K : FiniteField V) (value : F → V) (w : ℕ) (pivots : List ℕ) (xs : List F) where

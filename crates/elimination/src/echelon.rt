@@ -1,10 +1,11 @@
 //! Rows in echelon form, one behind the other in a slice: what they leave of a row, and one row more behind them.
 ghost use Rattle.std.specs.Prelude.{◌+◌, ◌*◌, ◌≤◌, length, MatchOption, slice_index};
-ghost use Rattle.rows.specs.Memory.{at, row_at, square_at, Frame};
+ghost use Rattle.field.specs.Rows.{at, row_at, square_at};
+ghost use Rattle.rows.specs.Memory.{Frame};
 ghost use Rattle.elimination.specs.Elimination.{RowsInEchelon, OnesAtPivots, Remainder, NothingLeft, NewRow};
 
 use field::Field;
-use rows::row::{first_nonzero, scale_row, subtract_multiple};
+use rows::row::{first_nonzero, scale_row};
 
 /// Takes from the row what the rows of `basis`, as many as there are pivots, take of it: it is zero at their pivots then.
 // Echelon form is a fact and no type: the rows lie in a longer slice, and the next one is written behind them.
@@ -14,11 +15,7 @@ pub fn reduce_row<F: Field>(row: &mut [F], basis: &[F], pivots: &[usize])
     requires ones_at_pivots { OnesAtPivots F.field F.value (length row.old) pivots.now basis.now }
     ensures remainder { Remainder F.field (length row.old) (length pivots.now) (square_at F.field F.value basis.now 0 (length row.old)) (λ b. slice_index pivots.now b) (at F.field F.value row.old) (at F.field F.value row.new) }
 {
-    let n = row.len();
-    for (b, pivot) in pivots.iter().enumerate() {
-        let factor = row[*pivot];
-        subtract_multiple(row, factor, &basis[b * n..b * n + n]);
-    }
+    F::subtract_rows(row, basis, pivots);
 }
 
 /// Copies the row to behind the rows of `echelon`, as many as there are pivots, and reduces it there. If something is left

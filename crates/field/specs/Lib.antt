@@ -1,2 +1,4 @@
 pub mod FiniteField
 pub mod Below
+pub mod Sums
+pub mod Rows

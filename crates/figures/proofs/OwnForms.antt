@@ -8,11 +8,13 @@ use Rattle.series.specs.Words.{Word, Over}
 use Rattle.series.specs.Listing.{Listed}
 use Rattle.series.specs.Families.{Of, mix}
 use Rattle.series.specs.Fresh.{Fresh}
-use Rattle.series.specs.Tables.{Table, dot, move, row, column, weight}
+use Rattle.field.specs.Sums.{dot, move}
+use Rattle.series.specs.Tables.{Table, row, column, weight}
 use Rattle.series.specs.Projecting.{Columns, Spanning, seen, FreshSeen}
 use Rattle.series.specs.Reducing.{Reduced}
 use Rattle.series.specs.EliminationProgress.{Echelon}
-use Rattle.series.proofs.SumLaws.{sum_same, sum_one}
+use Rattle.field.proofs.Rows.{sum_same}
+use Rattle.series.proofs.SumLaws.{sum_one}
 use Rattle.series.proofs.SpanLaws.{span_same, span_more}
 use Rattle.series.proofs.Families.{mix_span}
 use Rattle.series.proofs.FreshWords.{fresh_alike, fresh_prefix}

@@ -9,7 +9,9 @@ use Rattle.series.specs.Words.{Word, Over}
 use Rattle.series.specs.Families.{mix}
 use Rattle.series.specs.WalkProgress.{Scanned, Upto}
 use Rattle.series.specs.EliminationProgress.{Echelon}
-use Rattle.series.specs.Tables.{Table, weight, row, dot, move, Agree}
+use Rattle.field.specs.Sums.{dot, move}
+use Rattle.field.specs.Rows.{Agree, at, row_at, square_at, RowOf}
+use Rattle.series.specs.Tables.{Table, weight, row}
 use Rattle.series.proofs.Words.{over_append}
 use Rattle.series.proofs.Weights.{row_push}
 use Rattle.series.proofs.Families.{mix_one}
@@ -19,13 +21,11 @@ use Rattle.series.proofs.Places.{range, range_has, range_are}
 use Rattle.series.proofs.ReducedForms.{leading_prefix}
 use Rattle.series.proofs.Projections.{seen_leading, leading_seen}
 use Rattle.series.proofs.Walks.{scan_none, scan_back, scan_skip, scan_add, scan_first, scan_letter, scan_word, scan_done}
-use Rattle.rows.specs.Memory.{at, row_at, square_at, Written}
-use Rattle.rows.specs.Seen.{RowOf}
+use Rattle.rows.specs.Memory.{Written}
 use Rattle.rows.proofs.Memory.{frame_below}
-use Rattle.rows.proofs.Slices.{length_part, at_part}
+use Rattle.field.proofs.Rows.{length_part, at_part, dot_same}
 use Rattle.rows.proofs.Splits.{at_front}
 use Rattle.rows.proofs.Parts.{written_part, written_range, written_behind}
-use Rattle.rows.proofs.Sums.{dot_same}
 use Rattle.elimination.specs.Elimination.{NewRow}
 use Rattle.elimination.proofs.Updates.{updated, updated_here, updated_other}
 use Rattle.elimination.proofs.Bases.{basis_same, basis_grow}

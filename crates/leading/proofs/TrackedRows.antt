@@ -5,8 +5,9 @@ use Rattle.field.proofs.Laws.{ring, zero_plus, zero_times, plus_times, neg_zero}
 use Rattle.series.specs.Spans.{Span, none, more}
 use Rattle.series.specs.Families.{Of, mix}
 use Rattle.series.specs.EliminationProgress.{Echelon}
-use Rattle.series.specs.Tables.{Agree}
-use Rattle.series.proofs.SumLaws.{sum_same, sum_zero, sum_plus, sum_times}
+use Rattle.field.specs.Rows.{Agree}
+use Rattle.field.proofs.Rows.{sum_same}
+use Rattle.series.proofs.SumLaws.{sum_zero, sum_plus, sum_times}
 use Rattle.series.proofs.SpanLaws.{span_fewer, span_zero}
 use Rattle.elimination.specs.Elimination.{Remainder}
 use Rattle.elimination.proofs.Remainders.{remainder_room, remainder_same, remainder_nothing}

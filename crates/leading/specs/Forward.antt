@@ -6,9 +6,9 @@ use Rattle.series.specs.Families.{mix}
 use Rattle.series.specs.Listing.{Listed}
 use Rattle.series.specs.WalkProgress.{Scanned}
 use Rattle.series.specs.EliminationProgress.{Basis}
-use Rattle.series.specs.Tables.{Table, row, Agree}
+use Rattle.field.specs.Rows.{Agree, row_at, square_at}
+use Rattle.series.specs.Tables.{Table, row}
 use Rattle.series.specs.Projecting.{seen, FreshSeen}
-use Rattle.rows.specs.Memory.{row_at, square_at}
 use Rattle.rows.specs.Seen.{table_of}
 use Rattle.spanning.specs.Places.{vector_at, coefficients_at}
 use Rattle.spanning.specs.Views.{columns_of, Spanned}

@@ -2,7 +2,7 @@
 use Rattle.std.specs.Prelude.{◌≡◌, ℕ, suc, ◌+◌, ◌<◌, ◌≤◌}
 use Rattle.field.specs.FiniteField.{FiniteField}
 use Rattle.series.specs.Families.{mix}
-use Rattle.series.specs.Tables.{Agree}
+use Rattle.field.specs.Rows.{Agree}
 use Rattle.elimination.specs.Elimination.{NothingLeft, NewRow}
 
 module _ {V : Type 0} (K : FiniteField V) where

@@ -1,8 +1,9 @@
 //! The forward pass: the leading words, found in order through the spanning columns, and the coefficients of each followed by
 //! each letter.
 ghost use Rattle.std.specs.Prelude.{◌≡◌, [], ◌+◌, ◌*◌, ◌<◌, ◌≤◌, List, length};
-ghost use Rattle.series.specs.Tables.{dot as product, move, Agree};
-ghost use Rattle.rows.specs.Memory.{at, row_at, Written};
+ghost use Rattle.field.specs.Sums.{dot as product, move};
+ghost use Rattle.field.specs.Rows.{Agree, at, row_at};
+ghost use Rattle.rows.specs.Memory.{Written};
 ghost use Rattle.rows.specs.Seen.{table_of};
 ghost use Rattle.spanning.specs.Places.{vector_at};
 ghost use Rattle.spanning.specs.Views.{columns_of, Spanned};

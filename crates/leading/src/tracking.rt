@@ -1,6 +1,6 @@
 //! Elimination with tracked coefficients: which combination of the rows so far a row is.
 ghost use Rattle.std.specs.Prelude.{◌≡◌, ◌*◌, ◌<◌, ◌≤◌, length, MatchOption, slice_index};
-ghost use Rattle.rows.specs.Memory.{at, square_at};
+ghost use Rattle.field.specs.Rows.{at, square_at};
 ghost use Rattle.elimination.specs.Elimination.{RowsInEchelon, OnesAtPivots};
 ghost use Rattle.leading.specs.Tracking.{Bare, Combines, Extends};
 

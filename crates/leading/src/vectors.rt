@@ -1,8 +1,7 @@
 //! Rows that a reduction writes: products with columns, opposites, and unit rows.
 ghost use Rattle.std.specs.Prelude.{◌≡◌, ◌*◌, ◌≤◌, length};
-ghost use Rattle.series.specs.Tables.{dot as product};
-ghost use Rattle.rows.specs.Memory.{at};
-ghost use Rattle.rows.specs.Seen.{RowOf};
+ghost use Rattle.field.specs.Sums.{dot as product};
+ghost use Rattle.field.specs.Rows.{at, RowOf};
 ghost use Rattle.spanning.specs.Views.{columns_of};
 ghost use Rattle.leading.specs.Units.{unit};
 

@@ -2,8 +2,7 @@
 use Rattle.std.proofs.Common.{◌≡◌, ℕ, ◌*◌, ◌/◌, ◌%◌, List, length, ap, ap₂, ◌∙◌, arith}
 use Rattle.field.specs.FiniteField.{FiniteField}
 use Rattle.series.specs.Operations.{crossed}
-use Rattle.rows.specs.Memory.{at}
-use Rattle.rows.specs.Seen.{RowOf}
+use Rattle.field.specs.Rows.{at, RowOf}
 use Rattle.rows.proofs.Layouts.{matrix_row}
 
 pub products_of : {F V : Type 0} (K : FiniteField V) (v : F → V) {n m : ℕ} {x y : ℕ → V} {xs ys zs : List F} → RowOf K v n x xs → RowOf K v m y ys

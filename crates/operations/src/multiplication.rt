@@ -2,9 +2,9 @@
 ghost use Rattle.std.specs.Prelude.{◌≡◌, ◌*◌, ◌<◌, ◌≤◌, length};
 ghost use Rattle.series.specs.Tables.{weight};
 ghost use Rattle.series.specs.Operations.{product_table, crossed};
-ghost use Rattle.rows.specs.Memory.{at};
+ghost use Rattle.field.specs.Rows.{at, RowOf};
 ghost use Rattle.rows.specs.Layout.{table_size, table_at};
-ghost use Rattle.rows.specs.Seen.{table_of, RowOf, HoldsTable};
+ghost use Rattle.rows.specs.Seen.{table_of, HoldsTable};
 ghost use Rattle.rows.specs.Tables.{Weighs};
 
 use field::Field;

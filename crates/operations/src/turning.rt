@@ -3,7 +3,8 @@ ghost use Rattle.std.specs.Prelude.{◌≡◌, reverse, ◌<◌, ◌≤◌, leng
 ghost use Rattle.series.specs.Tables.{weight};
 ghost use Rattle.series.specs.Operations.{turned_table};
 ghost use Rattle.rows.specs.Layout.{table_size, table_at};
-ghost use Rattle.rows.specs.Seen.{table_of, RowOf, HoldsTable};
+ghost use Rattle.field.specs.Rows.{RowOf};
+ghost use Rattle.rows.specs.Seen.{table_of, HoldsTable};
 ghost use Rattle.rows.specs.Tables.{Weighs};
 
 use field::Field;

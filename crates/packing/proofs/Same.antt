@@ -5,9 +5,10 @@ use Rattle.field.specs.FiniteField.{FiniteField}
 use Rattle.series.specs.Words.{Word, Over}
 use Rattle.series.specs.Listing.{Listed}
 use Rattle.series.specs.Families.{mix}
-use Rattle.series.specs.Tables.{Table, Agree, SameTable}
+use Rattle.field.specs.Rows.{Agree}
+use Rattle.series.specs.Tables.{Table, SameTable}
 use Rattle.series.specs.Reducing.{residual, Leading, Reduced}
-use Rattle.series.proofs.SumLaws.{sum_same}
+use Rattle.field.proofs.Rows.{sum_same}
 use Rattle.columns.specs.Lines.{letter, line}
 use Rattle.text.specs.Texts.{codes, body_of, text_of}
 use Rattle.columns.specs.declared.line.Kind.TheVariants as kind

@@ -5,9 +5,9 @@ use Rattle.series.specs.Reducing.{Reduced}
 use Rattle.series.specs.Tables.{Table, weight, SameTable}
 use Rattle.series.proofs.Projections.{reduced_from}
 use Rattle.series.proofs.ReducedForms.{reduced_weight, reduced_least}
-use Rattle.rows.specs.Memory.{row_at}
+use Rattle.field.specs.Rows.{row_at}
 use Rattle.rows.specs.Layout.{table_at}
-use Rattle.rows.proofs.Sums.{dot_same}
+use Rattle.field.proofs.Rows.{dot_same}
 use Rattle.reduction.specs.Promises.{SameWeights, Least, AllZero}
 use Rattle.spanning.specs.Places.{coefficients_at}
 use Rattle.spanning.specs.Views.{columns_of}

@@ -1,8 +1,9 @@
 -- The table that leading words and their coefficients are, as it is written out. Cited by the contracts inside a reduction only. Assumes nothing.
 use Rattle.std.specs.Prelude.{ℕ, List}
 use Rattle.field.specs.FiniteField.{FiniteField}
-use Rattle.series.specs.Tables.{Table, dot}
-use Rattle.rows.specs.Memory.{row_at}
+use Rattle.field.specs.Sums.{dot}
+use Rattle.series.specs.Tables.{Table}
+use Rattle.field.specs.Rows.{row_at}
 use Rattle.spanning.specs.Places.{vector_at, coefficients_at}
 use Rattle.leading.specs.Units.{unit}
 

@@ -1,9 +1,9 @@
 //! The reduced form, written out as a table: start row, matrices by letter and then by row, end column.
 ghost use Rattle.std.specs.Prelude.{◌≡◌, ◌<◌, ◌≤◌, length};
 ghost use Rattle.series.specs.Tables.{SameTable};
-ghost use Rattle.rows.specs.Memory.{row_at};
+ghost use Rattle.field.specs.Rows.{row_at, RowOf};
 ghost use Rattle.rows.specs.Layout.{table_size, table_at};
-ghost use Rattle.rows.specs.Seen.{table_of, RowOf};
+ghost use Rattle.rows.specs.Seen.{table_of};
 ghost use Rattle.spanning.specs.Places.{coefficients_at};
 ghost use Rattle.reduction.specs.Result.{form_of};
 

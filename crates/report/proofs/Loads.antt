@@ -2,7 +2,7 @@
 use Rattle.std.proofs.Common.{◌≡◌, ℕ, ◌≤◌, ◌≢◌, List, length, sym, refl, ap, ◌∙◌, subst, inl, inr, arith}
 use Rattle.field.specs.FiniteField.{FiniteField}
 use Rattle.series.specs.Tables.{Table, SameTable}
-use Rattle.rows.specs.Memory.{at}
+use Rattle.field.specs.Rows.{at}
 use Rattle.rows.specs.Layout.{table_at}
 use Rattle.rows.proofs.Memory.{frame_below}
 use Rattle.text.specs.Readings.{Sized, Refuses as TextRefused}

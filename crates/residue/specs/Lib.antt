@@ -3,3 +3,4 @@ pub mod Remainders
 pub mod Residues
 pub mod Primality
 pub mod Delivered
+pub mod Sums

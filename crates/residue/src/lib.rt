@@ -7,7 +7,13 @@ ghost use Rattle.residue.specs.Prime.{Prime};
 ghost use Rattle.residue.specs.Residues.{residues};
 ghost use Rattle.residue.specs.Delivered.{prime_2, prime_65537};
 
+mod sums;
+
+use crate::sums::{add_multiple, residue, with_room, write_residues};
 use field::Field;
+
+/// Rows of at most so many entries have their sums side by side.
+const NARROW: usize = 32;
 
 /// GF(2).
 pub type Bit = Residue<2>;
@@ -102,5 +108,50 @@ where
 
     fn order() -> u64 {
         u64::from(P)
+    }
+
+    // A sum is reduced before it grows too large, so that a row of any length will do.
+    fn dot(row: &[Residue<P>], ys: &[Residue<P>], column: usize, step: usize) -> Residue<P> {
+        let mut sum = 0;
+        for (i, x) in row.iter().enumerate() {
+            sum = with_room::<P>(sum) + u64::from(x.n) * u64::from(ys[column + i * step].n);
+        }
+        residue(sum)
+    }
+
+    // Row by row of the matrix: so the entries of a row are taken side by side.
+    fn row_times_matrix(row: &[Residue<P>], matrix: &[Residue<P>], to: &mut [Residue<P>]) {
+        let n = row.len();
+        if n > NARROW {
+            for (j, x) in to.iter_mut().enumerate() {
+                *x = Self::dot(row, matrix, j, n);
+            }
+            return;
+        }
+        let mut room = [0_u64; NARROW];
+        let sums = &mut room[..n];
+        for (i, x) in row.iter().enumerate() {
+            add_multiple(sums, x.n, &matrix[i * n..i * n + n]);
+        }
+        write_residues(sums, to);
+    }
+
+    fn subtract_rows(row: &mut [Residue<P>], rows: &[Residue<P>], pivots: &[usize]) {
+        let n = row.len();
+        if n > NARROW || pivots.len() > NARROW {
+            for (b, pivot) in pivots.iter().enumerate() {
+                let factor = row[*pivot];
+                Self::subtract_multiple(row, factor, &rows[b * n..b * n + n]);
+            }
+            return;
+        }
+        let mut room = [0_u64; NARROW];
+        let sums = &mut room[..n];
+        add_multiple(sums, 1, row);
+        for (b, pivot) in pivots.iter().enumerate() {
+            let factor = residue::<P>(sums[*pivot]);
+            add_multiple(sums, P - factor.n, &rows[b * n..b * n + n]);
+        }
+        write_residues(sums, row);
     }
 }

@@ -5,14 +5,14 @@ use borrow.Rule.Slice.PartMut.{put_mid}
 use Rattle.std.proofs.lemmas.Nat.{mul-add-lt}
 use Rattle.field.specs.FiniteField.{FiniteField}
 use Rattle.series.specs.Words.{Word, Over}
-use Rattle.series.specs.Tables.{Table, Agree, beside, weight}
+use Rattle.field.specs.Rows.{Agree, at, row_at, RowOf}
+use Rattle.series.specs.Tables.{Table, beside, weight}
 use Rattle.series.proofs.Weights.{same_weight}
 use Rattle.series.proofs.Places.{both_parts, beside_left, beside_right}
-use Rattle.rows.specs.Memory.{at, row_at}
 use Rattle.rows.specs.Layout.{table_size, table_at, matrix_offset, end_offset}
-use Rattle.rows.specs.Seen.{RowOf, HoldsTable}
+use Rattle.rows.specs.Seen.{HoldsTable}
 use Rattle.rows.proofs.Memory.{at_copied}
-use Rattle.rows.proofs.Slices.{length_part, at_part}
+use Rattle.field.proofs.Rows.{length_part, at_part}
 use Rattle.rows.proofs.Splits.{at_front, at_back}
 use Rattle.rows.proofs.Layouts.{matrix_within}
 

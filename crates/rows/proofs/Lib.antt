@@ -1,5 +1,4 @@
 pub mod Memory
-pub mod Sums
 pub mod Layouts
 pub mod Words
 pub mod Tables

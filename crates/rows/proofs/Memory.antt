@@ -3,9 +3,10 @@ use Rattle.std.proofs.Common.{◌≡◌, ℕ, zero, suc, ◌+◌, ◌<◌, ◌�
 use Rattle.std.specs.List.{AllWithin, HoldsAt}
 use Rattle.std.proofs.lemmas.List.{get_or-map, get_or-set_same, get_or-set_other, length-set}
 use Rattle.field.specs.FiniteField.{FiniteField}
-use Rattle.series.specs.Tables.{Agree}
+use Rattle.field.specs.Rows.{Agree, at, row_at}
 use Rattle.rows.specs.Arithmetic.{FirstNonzero}
-use Rattle.rows.specs.Memory.{at, row_at, Frame, Written}
+use Rattle.rows.specs.Memory.{Frame, Written}
+use Rattle.field.proofs.Rows.{at_kept}
 
 -- the n elements from a on are now the very elements of src from b on, and every other is the very element it was
 pub record Copied {X : Type 0} (a n : ℕ) (src : List X) (b : ℕ) (xs ys : List X) : Type 0 where
@@ -13,35 +14,16 @@ pub record Copied {X : Type 0} (a n : ℕ) (src : List X) (b : ℕ) (xs ys : Lis
   pub frame : Frame a n xs ys
 
 module _ {F V : Type 0} (K : FiniteField V) (v : F → V) where
-  -- what a read `s[i]` gives
-  pub at_read : (xs : List F) (i : ℕ) (x : F) → i < length xs → x ≡ get_or xs i x → v x ≡ at K v xs i
-  at_read xs i x h r = ap v r ∙ sym (get_or-map v xs i x K.zero h)
-
   -- an element that stands in two lists has one value there
   pub at_copied : (xs ys : List F) (i j : ℕ) → i < length xs → j < length ys → ((d : F) → get_or ys j d ≡ get_or xs i d) → at K v ys j ≡ at K v xs i
   at_copied (x ∷ xs) ys i j l h e = get_or-map v ys j x K.zero h ∙ ap v (e x) ∙ sym (get_or-map v (x ∷ xs) i x K.zero l)
   at_copied [] ys i j l h e = absurd (omega arith)
 
-  -- lists of one length that have one element at k, also past their end
-  at_kept : (xs ys : List F) (k : ℕ) → length ys ≡ length xs → ((d : F) → get_or ys k d ≡ get_or xs k d) → at K v ys k ≡ at K v xs k
-  at_kept [] [] k n e = refl
-  at_kept [] (y ∷ ys) k n e = absurd (omega arith)
-  at_kept (x ∷ xs) [] k n e = absurd (omega arith)
-  at_kept (x ∷ xs) (y ∷ ys) zero n e = ap v (e x)
-  at_kept (x ∷ xs) (y ∷ ys) (suc k) n e = at_kept xs ys k (omega arith) e
-
-  pub at_set_same : (xs : List F) (k : ℕ) (x : F) → k < length xs → at K v (set xs k x) k ≡ v x
-  at_set_same xs k x l =
-      get_or-map v (set xs k x) k x K.zero (simp length-set (omega arith)) ∙ ap v (get_or-set_same xs k x x l)
-
-  pub at_set_other : (xs : List F) (i k : ℕ) (x : F) → k ≢ i → at K v (set xs i x) k ≡ at K v xs k
-  at_set_other xs i k x l = at_kept xs (set xs i x) k (length-set xs i x) (λ d. get_or-set_other xs i k x d l)
-
   pub frame_below : {a n : ℕ} {xs ys : List F} → Frame a n xs ys → (k : ℕ) → k < a → at K v ys k ≡ at K v xs k
-  frame_below {a} {n} {xs} {ys} e k l = at_kept xs ys k e.len (λ d. e.below k d l)
+  frame_below {a} {n} {xs} {ys} e k l = at_kept K v xs ys k e.len (λ d. e.below k d l)
 
   pub frame_above : {a n : ℕ} {xs ys : List F} → Frame a n xs ys → (k : ℕ) → a + n ≤ k → at K v ys k ≡ at K v xs k
-  frame_above {a} {n} {xs} {ys} e k l = at_kept xs ys k e.len (λ d. e.above k d l)
+  frame_above {a} {n} {xs} {ys} e k l = at_kept K v xs ys k e.len (λ d. e.above k d l)
 
   -- a copy has the values of its source
   pub copied_written : {a n : ℕ} {src : List F} {b : ℕ} {xs ys : List F} → Copied a n src b xs ys → a + n ≤ length ys → b + n ≤ length src → Written K v a n (row_at K v src b) xs ys

@@ -3,13 +3,14 @@ use Rattle.std.proofs.Common.{◌≡◌, ℕ, ◌+◌, ◌-◌, ◌<◌, ◌≤�
 use Rattle.std.proofs.lemmas.List.{places}
 use borrow.Rule.Slice.PartMut.{put_mid}
 use Rattle.field.specs.FiniteField.{FiniteField}
-use Rattle.series.specs.Tables.{Agree, dot, move}
-use Rattle.rows.specs.Memory.{at, row_at, square_at, Frame, Written}
-use Rattle.rows.specs.Seen.{RowOf, SquareOf}
+use Rattle.field.specs.Rows.{Agree, at, row_at, square_at, RowOf}
+use Rattle.field.specs.Sums.{dot, move}
+use Rattle.rows.specs.Memory.{Frame, Written}
+use Rattle.rows.specs.Seen.{SquareOf}
 use Rattle.rows.proofs.Memory.{at_copied}
-use Rattle.rows.proofs.Sums.{dot_same}
+use Rattle.field.proofs.Rows.{dot_same, at_part}
 use Rattle.rows.proofs.Splits.{at_front, at_back}
-use Rattle.rows.proofs.Slices.{at_part, row_part}
+use Rattle.rows.proofs.Slices.{row_part}
 
 module _ {X : Type 0} where
   -- the n elements from a on are written

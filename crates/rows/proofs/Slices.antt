@@ -3,54 +3,31 @@ use Rattle.std.proofs.Common.{◌≡◌, ℕ, ◌+◌, ◌-◌, ◌*◌, ◌<◌
 use Rattle.std.proofs.lemmas.List.{length-set, length-take-le, length-drop, get_or-take, get_or-drop, take-map, drop-map}
 use Rattle.std.proofs.lemmas.Nat.{mul-add-lt}
 use Rattle.field.specs.FiniteField.{FiniteField}
-use Rattle.series.specs.Tables.{Agree, dot, SameTable}
+use Rattle.field.specs.Rows.{Agree, at, row_at, square_at, RowOf}
+use Rattle.field.specs.Sums.{dot}
+use Rattle.series.specs.Tables.{SameTable}
 use Rattle.rows.specs.Layout.{table_size, table_at}
 use Rattle.rows.proofs.Layouts.{matrix_within}
-use Rattle.rows.specs.Memory.{at, row_at, square_at}
-use Rattle.rows.specs.Seen.{RowOf, SquareOf}
-use Rattle.rows.proofs.Memory.{at_set_same, at_set_other}
-use Rattle.rows.proofs.Sums.{dot_same}
-
--- how long the part from a to b is
-pub length_part : {X : Type 0} (a b : ℕ) (xs : List X) → a ≤ b → b ≤ length xs → length (take (b - a) (drop a xs)) ≡ b - a
-length_part a b xs l h = length-take-le (b - a) (drop a xs) (omega (arith, length-drop a xs))
+use Rattle.rows.specs.Seen.{SquareOf}
+use Rattle.field.proofs.Rows.{at_set_same, at_set_other, dot_same}
+use Rattle.field.proofs.Rows.{length_part, at_part}
 
 module _ {F V : Type 0} (K : FiniteField V) (v : F → V) where
-  -- a value in the part from a to b
-  pub at_part : (a b : ℕ) (xs : List F) (i : ℕ) → a + i < b → at K v (take (b - a) (drop a xs)) i ≡ at K v xs (a + i)
-  at_part a b xs i h =
-      ap (λ l. get_or l i K.zero) (sym (take-map v (b - a) (drop a xs)) ∙ ap (take (b - a)) (sym (drop-map v a xs)))
-      ∙ get_or-take (b - a) (drop a (map v xs)) i K.zero (omega arith)
-      ∙ get_or-drop a (map v xs) i K.zero
-
   -- a part as a row
   pub row_part : (a b n : ℕ) (x : ℕ → V) (xs : List F) → a + n ≡ b → b ≤ length xs → Agree n (row_at K v xs a) x → RowOf K v n x (take (b - a) (drop a xs))
   row_part a b n x xs w h e = record {
     len = length_part a b xs (omega arith) h ∙ omega arith;
-    same = λ i l. at_part a b xs i (omega arith) ∙ e i l;
+    same = λ i l. at_part K v a b xs i (omega arith) ∙ e i l;
   }
 
   -- a part as a matrix
   pub square_part : (a b n : ℕ) (m : ℕ → ℕ → V) (xs : List F) → a + n * n ≡ b → b ≤ length xs → ((i : ℕ) → i < n → Agree n (square_at K v xs a n i) (m i)) → SquareOf K v n m (take (b - a) (drop a xs))
   square_part a b n m xs w h e = record {
     len = length_part a b xs (omega arith) h ∙ omega arith;
-    same = λ i p j q. at_part a b xs (0 + (i * n + j)) (omega (arith, mul-add-lt i n j n p q)) ∙ ap (at K v xs) (omega arith) ∙ e i p j q;
+    same = λ i p j q. at_part K v a b xs (0 + (i * n + j)) (omega (arith, mul-add-lt i n j n p q)) ∙ ap (at K v xs) (omega arith) ∙ e i p j q;
   }
-
--- of ys the first j elements have the values of a row, and the rest those of xs
-pub record Filled {F V : Type 0} (K : FiniteField V) (v : F → V) (j : ℕ) (goal : ℕ → V) (xs ys : List F) : Type 0 where
-  pub len : length ys ≡ length xs
-  pub done : Agree j (at K v ys) goal
-  pub rest : (i : ℕ) → j ≤ i → at K v ys i ≡ at K v xs i
 
 module _ {F V : Type 0} (K : FiniteField V) (v : F → V) where
-  pub filled_more : {j : ℕ} {goal : ℕ → V} {xs ys : List F} (x : F) → Filled K v j goal xs ys → j < length ys → v x ≡ goal j → Filled K v (j + 1) goal xs (set ys j x)
-  filled_more {j} {goal} {xs} {ys} x f l here = record {
-    len = length-set ys j x ∙ f.len;
-    done = below_more (λ k. at K v (set ys j x) k ≡ goal k) j (λ k h. at_set_other K v ys j k x (omega arith) ∙ f.done k h) (at_set_same K v ys j x l ∙ here);
-    rest = λ i h. at_set_other K v ys j i x (omega arith) ∙ f.rest i (omega arith);
-  }
-
   -- a dot product with a part
   pub dot_part : (a b n : ℕ) (xs : List F) (y : ℕ → V) → a + n ≡ b → b ≤ length xs → dot K (length (take (b - a) (drop a xs))) (at K v (take (b - a) (drop a xs))) y ≡ dot K n (row_at K v xs a) y
   dot_part a b n xs y w h =

@@ -2,7 +2,7 @@
 use Rattle.std.proofs.Common.{◌≡◌, ℕ, ◌+◌, ◌<◌, List, ◌++◌, map, length, get_or, sym, ap, ◌∙◌, arith}
 use Rattle.std.proofs.lemmas.List.{length-map, map-append, get_or_append_left, get_or-append-add}
 use Rattle.field.specs.FiniteField.{FiniteField}
-use Rattle.rows.specs.Memory.{at}
+use Rattle.field.specs.Rows.{at}
 
 module _ {F V : Type 0} (K : FiniteField V) (v : F → V) where
   -- a value in the first part

@@ -3,7 +3,9 @@ use Rattle.std.proofs.Common.{ℕ, ◌+◌, ◌<◌, ◌≤◌, [], ◌∷◌, �
 use Rattle.std.proofs.lemmas.List.{take_more, drop_more, take-append-drop, length-take-le}
 use Rattle.field.specs.FiniteField.{FiniteField}
 use Rattle.series.specs.Words.{Word, Over}
-use Rattle.series.specs.Tables.{Table, move, row, Agree}
+use Rattle.field.specs.Sums.{move}
+use Rattle.field.specs.Rows.{Agree}
+use Rattle.series.specs.Tables.{Table, row}
 use Rattle.series.proofs.Words.{over_append}
 use Rattle.series.proofs.Weights.{row_push, move_linear}
 use Rattle.rows.specs.Weighing.{FirstOutside}

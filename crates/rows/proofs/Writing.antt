@@ -10,7 +10,8 @@ use Rattle.rows.proofs.Held.{before_part, in_part, row_long, row_within_slice, h
 use Rattle.field.specs.FiniteField.{FiniteField}
 use Rattle.series.specs.Tables.{Table}
 use Rattle.rows.specs.Layout.{table_size, end_offset}
-use Rattle.rows.specs.Seen.{RowOf, HoldsTable}
+use Rattle.field.specs.Rows.{RowOf}
+use Rattle.rows.specs.Seen.{HoldsTable}
 use Rattle.rows.specs.Writing.{WritesPart, WritesRow, WritesRows}
 
 module _ {W X : Type 0} (g : Shared W (ℕ × (ℕ × (MutBor (List X) × Unit {0}))) (Unit {0} × (MutBor (List X) × Unit {0}))) (w : W) (n : ℕ) where

@@ -7,10 +7,6 @@ module _ {V : Type 0} (K : FiniteField V) where
   abbrev pub multiple : V → (ℕ → V) → ℕ → V
   multiple c x j = K.times c (x j)
 
-  -- the row x less c times the row y
-  abbrev pub less_multiple : (ℕ → V) → V → (ℕ → V) → ℕ → V
-  less_multiple x c y j = K.plus (x j) (K.opposite (K.times c (y j)))
-
   -- p is the first of the columns below n at which the row x is not zero
   pub record FirstNonzero (n : ℕ) (x : ℕ → V) (p : ℕ) : Type 0 where
     pub within : p < n

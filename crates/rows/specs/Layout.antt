@@ -2,7 +2,7 @@
 use Rattle.std.specs.Prelude.{ℕ, ◌+◌, ◌-◌, ◌*◌, List}
 use Rattle.field.specs.FiniteField.{FiniteField}
 use Rattle.series.specs.Tables.{Table}
-use Rattle.rows.specs.Memory.{row_at, square_at}
+use Rattle.field.specs.Rows.{row_at, square_at}
 
 -- how many elements it takes
 abbrev pub table_size : ℕ → ℕ → ℕ

@@ -1,19 +1,14 @@
 -- Tables seen in memory, and the rows and matrices that whole slices hold. Assumes nothing.
 use Rattle.std.specs.Prelude.{◌≡◌, ℕ, ◌*◌, ◌<◌, List, length}
 use Rattle.field.specs.FiniteField.{FiniteField}
-use Rattle.series.specs.Tables.{Table, SameTable, Agree}
+use Rattle.field.specs.Rows.{Agree, at, square_at}
+use Rattle.series.specs.Tables.{Table, SameTable}
 use Rattle.rows.specs.declared.table.TableRef.{TableRef}
-use Rattle.rows.specs.Memory.{at, square_at}
 use Rattle.rows.specs.Layout.{table_size, table_at}
 
 -- the table that t shows
 abbrev pub table_of : {F V : Type 0} → FiniteField V → (F → V) → TableRef F → Table V
 table_of K value t = table_at K value t.memory.now t.base t.shape.states t.shape.letters
-
--- xs has n elements, with the values of the row x
-pub record RowOf {F V : Type 0} (K : FiniteField V) (value : F → V) (n : ℕ) (x : ℕ → V) (xs : List F) : Type 0 where
-  pub len : length xs ≡ n
-  pub same : Agree n (at K value xs) x
 
 -- xs has n rows of n elements each, with the values of the matrix m
 pub record SquareOf {F V : Type 0} (K : FiniteField V) (value : F → V) (n : ℕ) (m : ℕ → ℕ → V) (xs : List F) : Type 0 where

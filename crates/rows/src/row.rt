@@ -1,9 +1,8 @@
 //! Arithmetic on rows: each row, column and matrix is a slice of its own.
 ghost use Rattle.std.specs.Prelude.{◌≡◌, ℕ, ◌+◌, ◌*◌, ◌<◌, ◌++◌, length, MatchOption};
-ghost use Rattle.series.specs.Tables.{dot as product, move, Agree};
-ghost use Rattle.rows.specs.Memory.{at, square_at};
-ghost use Rattle.rows.specs.Seen.{RowOf};
-ghost use Rattle.rows.specs.Arithmetic.{less_multiple, multiple, FirstNonzero};
+ghost use Rattle.field.specs.Sums.{dot as product, move};
+ghost use Rattle.field.specs.Rows.{Agree, at, square_at, RowOf};
+ghost use Rattle.rows.specs.Arithmetic.{multiple, FirstNonzero};
 
 use field::Field;
 
@@ -12,11 +11,7 @@ pub fn dot<F: Field>(row: &[F], ys: &[F], column: usize, step: usize) -> F
     requires column_within { (i : ℕ) → i < length row.now → column + i * step < length ys.now }
     ensures is_dot_product { F.value result ≡ product F.field (length row.now) (at F.field F.value row.now) (λ i. at F.field F.value ys.now (column + i * step)) }
 {
-    let mut sum = F::zero();
-    for (i, x) in row.iter().enumerate() {
-        sum = sum.add(x.mul(ys[column + i * step]));
-    }
-    sum
+    F::dot(row, ys, column, step)
 }
 
 /// Writes to `to` the row times the matrix of as many rows and columns.
@@ -25,9 +20,7 @@ pub fn row_times_matrix<F: Field>(row: &[F], matrix: &[F], to: &mut [F])
     requires as_long { length to.old ≡ length row.now }
     ensures product_written { RowOf F.field F.value (length row.now) (move F.field (length row.now) (square_at F.field F.value matrix.now 0 (length row.now)) (at F.field F.value row.now)) to.new }
 {
-    for (j, x) in to.iter_mut().enumerate() {
-        *x = dot(row, matrix, j, row.len());
-    }
+    F::row_times_matrix(row, matrix, to);
 }
 
 /// Writes to `to` the matrix of as many rows and columns times the column.
@@ -51,17 +44,6 @@ pub fn write_beside<F: Field>(left: &[F], right: &[F], to: &mut [F])
     let (front, back) = to.split_at_mut(left.len());
     front.copy_from_slice(left);
     back.copy_from_slice(right);
-}
-
-/// Takes `factor` times another row from the row.
-pub fn subtract_multiple<F: Field>(row: &mut [F], factor: F, other: &[F])
-    requires as_long { length other.now ≡ length row.old }
-    ensures difference_written { RowOf F.field F.value (length row.old) (less_multiple F.field (at F.field F.value row.old) (F.value factor) (at F.field F.value other.now)) row.new }
-{
-    // `other[j]`: after a `zip` with `iter_mut` nothing is known of the elements.
-    for (j, x) in row.iter_mut().enumerate() {
-        *x = x.add(factor.mul(other[j]).neg());
-    }
 }
 
 /// Multiplies the row by `factor`.

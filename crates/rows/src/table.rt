@@ -76,7 +76,8 @@ impl<'a, F> Clone for TableRef<'a, F> {
 impl<'a, F> Copy for TableRef<'a, F> {}
 
 impl<'a, F: Field> TableRef<'a, F> {
-    ghost use Rattle.rows.specs.Seen.{table_of, RowOf, SquareOf, HoldsTable};
+    ghost use Rattle.field.specs.Rows.{RowOf};
+    ghost use Rattle.rows.specs.Seen.{table_of, SquareOf, HoldsTable};
 
     /// The table at the front of memory.
     pub fn new(memory: &'a [F], shape: Shape) -> TableRef<'a, F>

@@ -3,7 +3,8 @@ use Rattle.std.proofs.Common.{ℕ, ◌<◌, [], ◌∷◌, ◌∙◌, ap₂}
 use Rattle.field.specs.FiniteField.{FiniteField}
 use Rattle.series.specs.Spans.{Span}
 use Rattle.series.specs.Words.{Word, Over}
-use Rattle.series.specs.Tables.{Table, dot, column}
+use Rattle.field.specs.Sums.{dot}
+use Rattle.series.specs.Tables.{Table, column}
 use Rattle.series.proofs.LinearMaps.{Linear, span_through}
 use Rattle.series.proofs.Weights.{dot_linear, dot_comm}
 

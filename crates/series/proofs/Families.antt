@@ -9,7 +9,8 @@ use Rattle.series.specs.Families.{Of, mix, Dependent, Independent}
 use Rattle.series.proofs.Lists.{Among, among_map, among_map_back}
 use Rattle.series.proofs.Elimination.{DependentList, decide_span, rows_dependent}
 use Rattle.series.proofs.Differences.{minus_zero}
-use Rattle.series.proofs.SumLaws.{sum_same, sum_zero, sum_plus, sum_times, sum_one}
+use Rattle.field.proofs.Rows.{sum_same}
+use Rattle.series.proofs.SumLaws.{sum_zero, sum_plus, sum_times, sum_one}
 use Rattle.series.proofs.SpanLaws.{span_same, span_more, span_fewer}
 use Rattle.series.proofs.Places.{range, range_has, range_are, range_length}
 

@@ -7,7 +7,8 @@ use Rattle.series.specs.Spans.{Span}
 use Rattle.series.specs.Comparing.{Kept, Tried, Alike, LeastDifference}
 use Rattle.series.specs.Listing.{Listed, Count}
 use Rattle.series.specs.WalkProgress.{Scanned}
-use Rattle.series.specs.Tables.{Table, dot, move, row, weight, beside, pair}
+use Rattle.field.specs.Sums.{dot, move}
+use Rattle.series.specs.Tables.{Table, row, weight, beside, pair}
 use Rattle.series.proofs.Listings.{count_unique, followed_list, listed_followed}
 use Rattle.series.proofs.Differences.{minus_zero, zero_minus}
 use Rattle.series.proofs.Places.{bounded, range, range_has, range_are, both_parts, beside_left, beside_right}

@@ -4,11 +4,12 @@ use mathlib.Core.Path.{fun_ext}
 use Rattle.std.proofs.lemmas.List.{reverse-append}
 use Rattle.field.specs.FiniteField.{FiniteField}
 use Rattle.field.proofs.Laws.{times_zero, zero_plus, ring}
-use Rattle.series.specs.Sums.{sum}
+use Rattle.field.specs.Sums.{sum_below, dot, move}
 use Rattle.series.specs.Words.{Word}
-use Rattle.series.specs.Tables.{Table, dot, move, after, row, column, weight, beside, pair}
+use Rattle.series.specs.Tables.{Table, after, row, column, weight, beside, pair}
 use Rattle.series.specs.Operations.{sum_table, scaled_table, after_table, turned_table}
-use Rattle.series.proofs.SumLaws.{sum_same, sum_zero, sum_times, sum_split}
+use Rattle.field.proofs.Rows.{sum_same}
+use Rattle.series.proofs.SumLaws.{sum_zero, sum_times, sum_split}
 use Rattle.series.proofs.Weights.{weight_append, dot_comm}
 use Rattle.series.proofs.Places.{both_parts, beside_left, beside_right}
 
@@ -79,7 +80,7 @@ module _ {V : Type 0} (K : FiniteField V) where
       right : (i : ℕ) → i < T.states → z (S.states + i) ≡ y i
       right i h = e (S.states + i) (omega arith) ∙ beside_right S.states x y i
 
-      halves : (j : ℕ) → move K (S.states + T.states) M z j ≡ sum K S.states (λ i. z i ⊗ M i j) ⊕ sum K T.states (λ i. z (S.states + i) ⊗ M (S.states + i) j)
+      halves : (j : ℕ) → move K (S.states + T.states) M z j ≡ sum_below K S.states (λ i. z i ⊗ M i j) ⊕ sum_below K T.states (λ i. z (S.states + i) ⊗ M (S.states + i) j)
       halves j = sum_split K S.states T.states (λ i. z i ⊗ M i j)
 
   pub sum_after : (S T : Table V) (w : Word) (x y z : ℕ → V) → ((i : ℕ) → i < S.states + T.states → z i ≡ beside S.states x y i) → (j : ℕ) → j < S.states + T.states

@@ -3,20 +3,21 @@ use Rattle.std.proofs.Common.{◌≡◌, ℕ, zero, suc, ◌+◌, ◌*◌, ◌/�
 use native.Mathlib.Nat.{div-eq_of_lt-le, mul-add-mod_self_right}
 use Rattle.field.specs.FiniteField.{FiniteField}
 use Rattle.field.proofs.Laws.{ring}
-use Rattle.series.specs.Sums.{sum}
+use Rattle.field.specs.Sums.{sum_below, dot, move}
 use Rattle.series.specs.Words.{Word}
-use Rattle.series.specs.Tables.{Table, dot, move, after, row, weight}
+use Rattle.series.specs.Tables.{Table, after, row, weight}
 use Rattle.series.specs.Operations.{crossed, product_table}
-use Rattle.series.proofs.SumLaws.{sum_same, sum_times, sum_split}
+use Rattle.field.proofs.Rows.{sum_same}
+use Rattle.series.proofs.SumLaws.{sum_times, sum_split}
 
 module _ {V : Type 0} (K : FiniteField V) where
   infixl 65 ◌⊕◌
   infixl 70 ◌⊗◌
   open K use {plus as ◌⊕◌, times as ◌⊗◌}
 
-  pub sum_rows : (n m : ℕ) (f : ℕ → V) → sum K (n * m) f ≡ sum K n (λ i. sum K m (λ j. f (i * m + j)))
+  pub sum_rows : (n m : ℕ) (f : ℕ → V) → sum_below K (n * m) f ≡ sum_below K n (λ i. sum_below K m (λ j. f (i * m + j)))
   sum_rows zero m f = rw zero-mul refl
-  sum_rows (suc n) m f = rw suc-mul (sum_split K (n * m) m f ∙ ap (λ v. v ⊕ sum K m (λ j. f (n * m + j))) (sum_rows n m f))
+  sum_rows (suc n) m f = rw suc-mul (sum_split K (n * m) m f ∙ ap (λ v. v ⊕ sum_below K m (λ j. f (n * m + j))) (sum_rows n m f))
 
   crossed_at : (m : ℕ) (x y : ℕ → V) (i j : ℕ) → j < m → crossed K m x y (i * m + j) ≡ x i ⊗ y j
   crossed_at m x y i j l = ap₂ (λ p q. x p ⊗ y q) whole (mul-add-mod_self_right i m j ∙ mod-eq_of_lt l)
@@ -27,7 +28,7 @@ module _ {V : Type 0} (K : FiniteField V) where
   pub dot_crossed : (n m : ℕ) (x x' y y' : ℕ → V) → dot K (n * m) (crossed K m x y) (crossed K m x' y') ≡ dot K n x x' ⊗ dot K m y y'
   dot_crossed n m x x' y y' =
       sum_rows n m (λ p. crossed K m x y p ⊗ crossed K m x' y' p)
-      ∙ sum_same K n (λ i. sum K m (λ j. crossed K m x y (i * m + j) ⊗ crossed K m x' y' (i * m + j))) (λ i. dot K m y y' ⊗ (x i ⊗ x' i)) (λ i l.
+      ∙ sum_same K n (λ i. sum_below K m (λ j. crossed K m x y (i * m + j) ⊗ crossed K m x' y' (i * m + j))) (λ i. dot K m y y' ⊗ (x i ⊗ x' i)) (λ i l.
       sum_same K m (λ j. crossed K m x y (i * m + j) ⊗ crossed K m x' y' (i * m + j)) (λ j. x i ⊗ x' i ⊗ (y j ⊗ y' j))
       (λ j h. ap₂ ◌⊗◌ (crossed_at m x y i j h) (crossed_at m x' y' i j h) ∙ simp (ring, K))
       ∙ sum_times K m (x i ⊗ x' i) (λ j. y j ⊗ y' j) ∙ K.times_comm (x i ⊗ x' i) (dot K m y y'))

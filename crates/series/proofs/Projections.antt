@@ -4,11 +4,12 @@ use Rattle.field.specs.FiniteField.{FiniteField}
 use Rattle.series.specs.Spans.{Span}
 use Rattle.series.specs.Words.{Word, Over}
 use Rattle.series.specs.Families.{Of, mix}
-use Rattle.series.specs.Tables.{Table, dot, against, row, column, weight}
+use Rattle.field.specs.Sums.{dot}
+use Rattle.series.specs.Tables.{Table, against, row, column, weight}
 use Rattle.series.specs.Listing.{Listed}
 use Rattle.series.specs.Projecting.{Columns, Spanning, seen, FreshSeen}
 use Rattle.series.specs.Reducing.{residual, Leading, Reduced}
-use Rattle.series.proofs.SumLaws.{sum_same}
+use Rattle.field.proofs.Rows.{sum_same}
 use Rattle.series.proofs.LinearMaps.{span_gone}
 use Rattle.series.proofs.Weights.{dot_comm, dot_linear, weight_append}
 use Rattle.series.proofs.FreshWords.{fresh_alike}

@@ -8,7 +8,8 @@ use Rattle.series.specs.Words.{Word, Over}
 use Rattle.series.specs.Listing.{Listed}
 use Rattle.series.specs.Families.{mix}
 use Rattle.series.specs.Fresh.{Fresh}
-use Rattle.series.specs.Tables.{Table, dot, against, move, row, column, weight}
+use Rattle.field.specs.Sums.{dot, move}
+use Rattle.series.specs.Tables.{Table, against, row, column, weight}
 use Rattle.series.specs.Projecting.{Spanning, seen, FreshSeen}
 use Rattle.series.specs.Reducing.{Reduced}
 use Rattle.series.proofs.Words.{over_append, over_decide, over_reverse}

@@ -5,10 +5,12 @@ use Rattle.field.specs.FiniteField.{FiniteField}
 use Rattle.field.proofs.Laws.{same?}
 use Rattle.series.specs.Words.{Word, Over}
 use Rattle.series.specs.Families.{mix, Independent}
-use Rattle.series.specs.Tables.{Table, dot, move, after, row, column, weight, Agree, SameTable}
+use Rattle.field.specs.Sums.{dot, move}
+use Rattle.field.specs.Rows.{Agree}
+use Rattle.series.specs.Tables.{Table, after, row, column, weight, SameTable}
 use Rattle.series.specs.Reducing.{residual, Leading, Reduced}
 use Rattle.series.proofs.Words.{over_append}
-use Rattle.series.proofs.SumLaws.{sum_same}
+use Rattle.field.proofs.Rows.{sum_same}
 use Rattle.series.proofs.SpanLaws.{span_same, span_member, span_zero}
 use Rattle.series.proofs.LinearMaps.{span_through, places_linear}
 use Rattle.series.proofs.Orders.{none_before}

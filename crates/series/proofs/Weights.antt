@@ -2,10 +2,12 @@
 use Rattle.std.proofs.Common.{◌≡◌, ℕ, ◌<◌, [], ◌∷◌, ◌++◌, sym, refl, ap, ◌∙◌, ap₂}
 use Rattle.field.specs.FiniteField.{FiniteField}
 use Rattle.field.proofs.Laws.{zero_times, ring}
-use Rattle.series.specs.Sums.{sum}
+use Rattle.field.specs.Sums.{sum_below, dot, move}
 use Rattle.series.specs.Words.{Word, Over}
-use Rattle.series.specs.Tables.{Table, dot, move, after, row, column, weight, Agree, SameTable}
-use Rattle.series.proofs.SumLaws.{sum_same, sum_zero, sum_plus, sum_times, sum_swap}
+use Rattle.field.specs.Rows.{Agree}
+use Rattle.series.specs.Tables.{Table, after, row, column, weight, SameTable}
+use Rattle.field.proofs.Rows.{sum_same}
+use Rattle.series.proofs.SumLaws.{sum_zero, sum_plus, sum_times, sum_swap}
 use Rattle.series.proofs.LinearMaps.{Linear}
 
 module _ {V : Type 0} (K : FiniteField V) where
@@ -19,11 +21,11 @@ module _ {V : Type 0} (K : FiniteField V) where
   -- sums of products in two ways
   pub dot_move : (n : ℕ) (m : ℕ → ℕ → V) (x y : ℕ → V) → dot K n (move K n m x) y ≡ dot K n x (λ i. dot K n (m i) y)
   dot_move n m x y =
-      sum_same K n (λ j. sum K n (λ i. x i ⊗ m i j) ⊗ y j) (λ j. sum K n (λ i. x i ⊗ (m i j ⊗ y j)))
-      (λ j l. K.times_comm (sum K n (λ i. x i ⊗ m i j)) (y j) ∙ sym (sum_times K n (y j) (λ i. x i ⊗ m i j))
+      sum_same K n (λ j. sum_below K n (λ i. x i ⊗ m i j) ⊗ y j) (λ j. sum_below K n (λ i. x i ⊗ (m i j ⊗ y j)))
+      (λ j l. K.times_comm (sum_below K n (λ i. x i ⊗ m i j)) (y j) ∙ sym (sum_times K n (y j) (λ i. x i ⊗ m i j))
       ∙ sum_same K n (λ i. y j ⊗ (x i ⊗ m i j)) (λ i. x i ⊗ (m i j ⊗ y j)) (λ i h. simp (ring, K)))
       ∙ sum_swap K n n (λ j i. x i ⊗ (m i j ⊗ y j))
-      ∙ sum_same K n (λ i. sum K n (λ j. x i ⊗ (m i j ⊗ y j))) (λ i. x i ⊗ dot K n (m i) y) (λ i l. sum_times K n (x i) (λ j. m i j ⊗ y j))
+      ∙ sum_same K n (λ i. sum_below K n (λ j. x i ⊗ (m i j ⊗ y j))) (λ i. x i ⊗ dot K n (m i) y) (λ i l. sum_times K n (x i) (λ j. m i j ⊗ y j))
 
   module _ (T : Table V) where
     pub after_append : (x : ℕ → V) (u v : Word) → after K T x (u ++ v) ≡ after K T (after K T x u) v

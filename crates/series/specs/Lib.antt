@@ -7,7 +7,6 @@ pub mod Operations
 pub mod Projecting
 pub mod Reducing
 pub mod Spans
-pub mod Sums
 pub mod Tables
 pub mod Theorems
 pub mod WalkProgress

@@ -1,7 +1,8 @@
 -- The tables that the operations on tables define. Assumes nothing.
 use Rattle.std.specs.Prelude.{ℕ, ◌+◌, ◌*◌, ◌/◌, ◌%◌}
 use Rattle.field.specs.FiniteField.{FiniteField}
-use Rattle.series.specs.Tables.{Table, move, beside}
+use Rattle.field.specs.Sums.{move}
+use Rattle.series.specs.Tables.{Table, beside}
 
 module _ {V : Type 0} (K : FiniteField V) where
   -- sum: the first table's states, then the second's; matrices in two diagonal blocks, zeros elsewhere

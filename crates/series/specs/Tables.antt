@@ -1,8 +1,9 @@
 -- Sequence tables: weighted automata over a field, and the weight of a word. Assumes nothing.
 use Rattle.std.specs.Prelude.{◌≡◌, ℕ, zero, suc, ◌<◌, ◌≤◌, [], ◌∷◌}
 use Rattle.field.specs.FiniteField.{FiniteField}
-use Rattle.series.specs.Sums.{sum}
+use Rattle.field.specs.Sums.{dot, move, sum_below}
 use Rattle.series.specs.Words.{Word}
+use Rattle.field.specs.Rows.{Agree}
 
 -- a start row, a square matrix for each of the letters 1 to `letters`, and an end column; entries are numbered from 0, and only those below `states` count
 pub record Table (V : Type 0) : Type 0 where
@@ -14,22 +15,14 @@ pub record Table (V : Type 0) : Type 0 where
   pub end : ℕ → V
 
 module _ {V : Type 0} (K : FiniteField V) where
-  -- a row times a column
-  abbrev pub dot : ℕ → (ℕ → V) → (ℕ → V) → V
-  dot n x y = sum K n (λ i. K.times (x i) (y i))
-
   -- a row times each of many columns
   abbrev pub against : {Y : Type 0} → ℕ → (Y → ℕ → V) → (ℕ → V) → Y → V
-  against n cs x j = dot n x (cs j)
-
-  -- a row times a matrix
-  abbrev pub move : ℕ → (ℕ → ℕ → V) → (ℕ → V) → ℕ → V
-  move n m x j = sum K n (λ i. K.times (x i) (m i j))
+  against n cs x j = dot K n x (cs j)
 
   -- the row x times the matrices of a word's letters, from left to right
   abbrev pub after : Table V → (ℕ → V) → Word → ℕ → V
   after T x [] = x
-  after T x (a ∷ w) = after T (move T.states (T.step a) x) w
+  after T x (a ∷ w) = after T (move K T.states (T.step a) x) w
 
   -- the start row times the matrices of a word's letters
   abbrev pub row : Table V → Word → ℕ → V
@@ -38,15 +31,11 @@ module _ {V : Type 0} (K : FiniteField V) where
   -- the matrices of a word's letters times the end column
   abbrev pub column : Table V → Word → ℕ → V
   column T [] = T.end
-  column T (a ∷ w) = λ i. dot T.states (T.step a i) (column T w)
+  column T (a ∷ w) = λ i. dot K T.states (T.step a i) (column T w)
 
   -- start row times matrices from left to right times end column
   abbrev pub weight : Table V → Word → V
-  weight T w = dot T.states (row T w) T.end
-
--- the first n entries of two rows are the same
-abbrev pub Agree : {V : Type 0} → ℕ → (ℕ → V) → (ℕ → V) → Type 0
-Agree n x y = (i : ℕ) → i < n → x i ≡ y i
+  weight T w = dot K T.states (row T w) T.end
 
 -- two tables agree number for number
 pub record SameTable {V : Type 0} (S T : Table V) : Type 0 where

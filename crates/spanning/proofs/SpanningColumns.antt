@@ -7,13 +7,15 @@ use Rattle.series.specs.Words.{Word, Over}
 use Rattle.series.specs.Spans.{Span}
 use Rattle.series.specs.Families.{Of}
 use Rattle.series.specs.EliminationProgress.{Basis}
-use Rattle.series.specs.Tables.{Table, column, dot, Agree}
+use Rattle.field.specs.Sums.{dot}
+use Rattle.field.specs.Rows.{Agree, at, row_at, square_at, RowOf}
+use Rattle.series.specs.Tables.{Table, column}
 use Rattle.series.proofs.SpanLaws.{span_same, span_span, span_member, span_more}
 use Rattle.series.proofs.Echelons.{echelon_in}
 use Rattle.series.proofs.Columns.{columns_covered}
 use Rattle.series.proofs.Bases.{basis_none}
-use Rattle.rows.specs.Memory.{at, row_at, square_at, Frame, Written}
-use Rattle.rows.specs.Seen.{RowOf, SquareOf}
+use Rattle.rows.specs.Memory.{Frame, Written}
+use Rattle.rows.specs.Seen.{SquareOf}
 use Rattle.rows.proofs.Memory.{frame_below}
 use Rattle.rows.proofs.Parts.{column_product, row_before, written_behind, written_part}
 use Rattle.elimination.specs.Elimination.{NothingLeft, NewRow}

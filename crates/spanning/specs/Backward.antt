@@ -5,8 +5,8 @@ use Rattle.series.specs.Words.{Word, Over}
 use Rattle.series.specs.Spans.{Span}
 use Rattle.series.specs.Families.{Of}
 use Rattle.series.specs.EliminationProgress.{Basis}
-use Rattle.series.specs.Tables.{Table, column, Agree}
-use Rattle.rows.specs.Memory.{row_at, square_at}
+use Rattle.field.specs.Rows.{Agree, row_at, square_at}
+use Rattle.series.specs.Tables.{Table, column}
 use Rattle.spanning.specs.Places.{vector_at}
 
 module _ {F V : Type 0} (K : FiniteField V) (value : F → V) (T : Table V) where

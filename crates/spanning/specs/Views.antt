@@ -3,7 +3,7 @@ use Rattle.std.specs.Prelude.{ℕ, List}
 use Rattle.field.specs.FiniteField.{FiniteField}
 use Rattle.series.specs.Tables.{Table}
 use Rattle.series.specs.Projecting.{Spanning}
-use Rattle.rows.specs.Memory.{row_at}
+use Rattle.field.specs.Rows.{row_at}
 use Rattle.spanning.specs.Places.{vector_at}
 
 module _ {F V : Type 0} (K : FiniteField V) (value : F → V) where

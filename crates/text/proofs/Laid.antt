@@ -4,7 +4,7 @@ use Rattle.std.specs.List.{range_with_len, flat_map}
 use Rattle.std.proofs.lemmas.Nat.{div-mul-add, mod-mul-add}
 use Rattle.std.proofs.lemmas.List.{length-map, map-append, length-append, take_at, drop_at, take_all, drop-drop, drop_more, take-take, drop-take}
 use Rattle.field.specs.FiniteField.{FiniteField}
-use Rattle.rows.specs.Memory.{at, row_at, square_at}
+use Rattle.field.specs.Rows.{at, row_at, square_at}
 use Rattle.rows.specs.Layout.{table_size, matrix_offset, end_offset, table_at}
 use Rattle.columns.specs.Lines.{line}
 use Rattle.reader.specs.Items.{ranged, line_items, Stops}

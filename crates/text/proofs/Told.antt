@@ -4,7 +4,8 @@ use Rattle.std.specs.List.{range_with_len, flat_map}
 use Rattle.std.proofs.lemmas.List.{length-append}
 use Rattle.field.specs.FiniteField.{FiniteField}
 use Rattle.field.proofs.Laws.{code_only}
-use Rattle.series.specs.Tables.{Table, Agree, SameTable}
+use Rattle.field.specs.Rows.{Agree}
+use Rattle.series.specs.Tables.{Table, SameTable}
 use Rattle.columns.specs.Lines.{line, TenDigits}
 use Rattle.text.specs.Texts.{Limits, text_size, codes, matrix_line, matrix_lines, body_of, text_of}
 use Rattle.text.specs.Readings.{Sized}

@@ -3,13 +3,14 @@ use Rattle.std.proofs.Common.{◌≡◌, ℕ, suc, ◌+◌, ◌*◌, ◌<◌, �
 use native.Mathlib.Decide.{ℕ_discrete}
 use Rattle.field.specs.FiniteField.{FiniteField}
 use Rattle.series.specs.Comparing.{Kept}
-use Rattle.series.specs.Tables.{Table, weight, pair, Agree}
+use Rattle.field.specs.Rows.{Agree, at, row_at, square_at}
+use Rattle.series.specs.Tables.{Table, weight, pair}
 use Rattle.series.specs.WalkProgress.{Scanned}
 use Rattle.series.specs.Words.{Word, Over}
 use Rattle.series.proofs.Bases.{basis_none, basis_fresh, basis_not_fresh}
 use Rattle.series.proofs.Echelons.{echelon_few}
 use Rattle.series.proofs.Places.{range, range_has, range_are}
-use Rattle.rows.specs.Memory.{at, row_at, square_at, Frame}
+use Rattle.rows.specs.Memory.{Frame}
 use Rattle.rows.proofs.Memory.{frame_below}
 use Rattle.elimination.specs.Elimination.{NothingLeft, NewRow}
 use Rattle.walk.specs.Walking.{Held}

@@ -2,13 +2,14 @@
 use Rattle.std.proofs.Common.{◌≡◌, ℕ, ◌+◌, ◌*◌, ◌<◌, List, [], ◌∷◌, ◌++◌, length, take, drop, sym, ap, ap₂, ◌∙◌, arith, length-append}
 use Rattle.std.proofs.lemmas.List.{take-append-drop}
 use Rattle.field.specs.FiniteField.{FiniteField}
-use Rattle.series.specs.Tables.{Table, dot, move, row, weight, pair, Agree}
+use Rattle.field.specs.Sums.{dot, move}
+use Rattle.field.specs.Rows.{Agree, at, square_at, RowOf}
+use Rattle.series.specs.Tables.{Table, row, weight, pair}
 use Rattle.series.specs.Words.{Word}
 use Rattle.series.proofs.Places.{both_parts, beside_left, beside_right}
 use Rattle.series.proofs.Weights.{row_push}
-use Rattle.rows.specs.Memory.{at, square_at}
-use Rattle.rows.specs.Seen.{RowOf, SquareOf}
-use Rattle.rows.proofs.Sums.{dot_same}
+use Rattle.rows.specs.Seen.{SquareOf}
+use Rattle.field.proofs.Rows.{dot_same}
 use Rattle.rows.proofs.Splits.{at_first, at_second}
 
 -- what split_at answers are the parts

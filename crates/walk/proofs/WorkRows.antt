@@ -2,9 +2,8 @@
 use Rattle.std.proofs.Common.{◌≡◌, ℕ, ◌+◌, ◌-◌, ◌*◌, ◌<◌, ◌≤◌, List, ◌++◌, length, take, drop, ap, ap₂, ◌∙◌, arith}
 use Rattle.std.proofs.lemmas.List.{length-take-le}
 use Rattle.field.specs.FiniteField.{FiniteField}
-use Rattle.series.specs.Tables.{Agree}
-use Rattle.rows.specs.Memory.{at, row_at}
-use Rattle.rows.proofs.Slices.{at_part}
+use Rattle.field.specs.Rows.{Agree, at, row_at}
+use Rattle.field.proofs.Rows.{at_part}
 use Rattle.rows.proofs.Splits.{at_front, at_back, at_first}
 use Rattle.elimination.proofs.Offsets.{rows_room, entry_before}
 

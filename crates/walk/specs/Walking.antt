@@ -3,10 +3,10 @@ use Rattle.std.specs.Prelude.{◌≡◌, ℕ, ◌+◌, ◌*◌, ◌<◌, ◌≤�
 use Rattle.field.specs.FiniteField.{FiniteField}
 use Rattle.series.specs.Comparing.{Kept}
 use Rattle.series.specs.EliminationProgress.{Basis}
-use Rattle.series.specs.Tables.{Table, weight, pair, Agree}
+use Rattle.field.specs.Rows.{Agree, row_at, square_at}
+use Rattle.series.specs.Tables.{Table, weight, pair}
 use Rattle.series.specs.WalkProgress.{Scanned}
 use Rattle.series.specs.Words.{Word, ◌≺◌}
-use Rattle.rows.specs.Memory.{row_at, square_at}
 use Rattle.walk.specs.Comparing.{FirstDifference}
 use Rattle.walk.specs.declared.links.Link.{Link}
 use Rattle.walk.specs.declared.links.Walk.{Walk}

@@ -34,10 +34,9 @@ pub struct Weights {
 }
 
 impl<'a, F: Field> Pair<'a, F> {
-    ghost use Rattle.series.specs.Tables.{pair, weight, Agree};
+    ghost use Rattle.field.specs.Rows.{Agree, at, RowOf};
+    ghost use Rattle.series.specs.Tables.{pair, weight};
     ghost use Rattle.series.specs.Words.{Word};
-    ghost use Rattle.rows.specs.Memory.{at};
-    ghost use Rattle.rows.specs.Seen.{RowOf};
     ghost use Rattle.walk.specs.Pairs.{width, left_table, right_table, Unlike};
 
     /// How long a pair row is.

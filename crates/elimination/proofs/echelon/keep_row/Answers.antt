@@ -1,6 +1,6 @@
 use Rattle.std.proofs.Common.{◌≡◌, ℕ, ◌*◌, ◌++◌, length, drop, get_or, refl, ap, ◌∙◌, arith}
-use Rattle.rows.specs.Memory.{at, square_at}
-use Rattle.rows.proofs.Memory.{at_read}
+use Rattle.field.specs.Rows.{at, square_at}
+use Rattle.field.proofs.Rows.{at_read}
 use Rattle.rows.proofs.Splits.{at_front, at_back}
 use Rattle.elimination.proofs.Remainders.{echelon_same, remainder_same, remainder_nothing, remainder_room, rows_before}
 use Rattle.elimination.proofs.echelon.keep_row.Goals as goal

@@ -1,9 +1,9 @@
 use Rattle.std.proofs.Common.{◌≡◌, ◌++◌, length, drop, take, sym, refl, ap, ◌∙◌, ◌+◌, ◌-◌, subst, arith}
 use Rattle.std.proofs.lemmas.List.{length-append}
-use Rattle.series.specs.Tables.{dot, move}
-use Rattle.rows.specs.Memory.{at, row_at, square_at, Written}
-use Rattle.rows.specs.Seen.{RowOf}
-use Rattle.rows.proofs.Sums.{dot_same}
+use Rattle.field.specs.Sums.{dot, move}
+use Rattle.field.specs.Rows.{at, row_at, square_at, RowOf}
+use Rattle.rows.specs.Memory.{Written}
+use Rattle.field.proofs.Rows.{dot_same}
 use Rattle.rows.proofs.Parts.{row_product, row_before, written_behind}
 use Rattle.spanning.specs.Places.{vector_at}
 use Rattle.spanning.specs.Views.{columns_of}

@@ -1,6 +1,6 @@
 use Rattle.std.proofs.Common.{sym, ◌∙◌, subst, arith}
 use Rattle.std.proofs.lemmas.List.{length-take-le}
-use Rattle.rows.specs.Seen.{RowOf}
+use Rattle.field.specs.Rows.{RowOf}
 use Rattle.leading.specs.Forward.{viewed}
 use Rattle.leading.proofs.LeadingWords.{empty_skip, empty_keep}
 use Rattle.leading.proofs.forward.try_empty.Goals as goal

@@ -1,7 +1,7 @@
 use Rattle.std.proofs.Common.{◌≡◌, ℕ, ◌+◌, ◌<◌, ◌≢◌, length, take, get_or, set, sym, ap, ◌∙◌, subst, arith}
 use Rattle.std.proofs.lemmas.List.{length-take-le}
-use Rattle.rows.specs.Memory.{at, square_at}
-use Rattle.rows.proofs.Memory.{at_read, at_set_same, at_set_other}
+use Rattle.field.specs.Rows.{at, square_at}
+use Rattle.field.proofs.Rows.{at_read, at_set_same, at_set_other}
 use Rattle.rows.proofs.Parts.{at_first}
 use Rattle.elimination.specs.Elimination.{Remainder}
 use Rattle.leading.proofs.TrackedRows.{combination, new_room, new_tracked}

@@ -1,7 +1,6 @@
 use Rattle.std.proofs.Common.{ap, arith}
-use Rattle.rows.specs.Memory.{at}
-use Rattle.rows.proofs.Memory.{at_read}
-use Rattle.rows.proofs.Slices.{filled_more}
+use Rattle.field.specs.Rows.{at}
+use Rattle.field.proofs.Rows.{at_read, filled_more}
 use Rattle.leading.proofs.vectors.negate_row.Goals as goal
 
 pub loop-x-preserved : goal.loop-x-preserved

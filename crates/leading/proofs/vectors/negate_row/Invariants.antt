@@ -1,5 +1,5 @@
-use Rattle.rows.specs.Memory.{at}
-use Rattle.rows.proofs.Slices.{Filled}
+use Rattle.field.specs.Rows.{at}
+use Rattle.field.proofs.Rows.{Filled}
 use Rattle.leading.proofs.vectors.negate_row.Given as goal
 
 abbrev pub invariant-loop-x : goal.invariant-loop-x

@@ -1,7 +1,6 @@
 use Rattle.std.proofs.Common.{ap, ◌∙◌, length, refl, arith}
-use Rattle.rows.specs.Memory.{at}
-use Rattle.rows.proofs.Sums.{dot_same}
-use Rattle.rows.proofs.Slices.{filled_more}
+use Rattle.field.specs.Rows.{at}
+use Rattle.field.proofs.Rows.{dot_same, filled_more}
 use Rattle.leading.proofs.vectors.project_row.Goals as goal
 
 pub loop-j-preserved : goal.loop-j-preserved

@@ -1,7 +1,7 @@
 use Rattle.std.proofs.Common.{length}
-use Rattle.series.specs.Tables.{dot}
-use Rattle.rows.specs.Memory.{at}
-use Rattle.rows.proofs.Slices.{Filled}
+use Rattle.field.specs.Sums.{dot}
+use Rattle.field.specs.Rows.{at}
+use Rattle.field.proofs.Rows.{Filled}
 use Rattle.spanning.specs.Views.{columns_of}
 use Rattle.leading.proofs.vectors.project_row.Given as goal
 

@@ -1,5 +1,5 @@
 use Rattle.std.proofs.Common.{◌≡◌, sym, ap, ◌∙◌, arith}
-use Rattle.rows.proofs.Slices.{filled_more}
+use Rattle.field.proofs.Rows.{filled_more}
 use Rattle.leading.specs.Units.{unit}
 use Rattle.leading.proofs.UnitRows.{unit_here, unit_other}
 use Rattle.leading.proofs.vectors.unit_row.Goals as goal

@@ -1,4 +1,4 @@
-use Rattle.rows.proofs.Slices.{Filled}
+use Rattle.field.proofs.Rows.{Filled}
 use Rattle.leading.specs.Units.{unit}
 use Rattle.leading.proofs.vectors.unit_row.Given as goal
 

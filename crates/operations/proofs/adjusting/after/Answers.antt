@@ -1,10 +1,10 @@
 use Rattle.std.proofs.Common.{ap, ◌∙◌}
-use Rattle.series.specs.Tables.{move}
+use Rattle.field.specs.Sums.{move}
 use Rattle.series.specs.Operations.{after_table}
 use Rattle.series.proofs.Operations.{after_weight}
-use Rattle.rows.specs.Memory.{at, square_at}
+use Rattle.field.specs.Rows.{at, square_at}
 use Rattle.rows.specs.Seen.{table_of}
-use Rattle.rows.proofs.Sums.{dot_same}
+use Rattle.field.proofs.Rows.{dot_same}
 use Rattle.rows.proofs.Held.{held_but_start, held_weighs, row_long, row_same}
 use Rattle.operations.proofs.adjusting.after.Goals as goal
 

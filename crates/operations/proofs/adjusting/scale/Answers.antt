@@ -1,10 +1,10 @@
 use Rattle.std.proofs.Common.{◌≡◌, ◌+◌, ◌-◌, length, sym, ap, ◌∙◌, subst, arith}
 use Rattle.series.specs.Operations.{scaled_table}
 use Rattle.series.proofs.Operations.{scaled_weight}
-use Rattle.rows.specs.Memory.{at}
+use Rattle.field.specs.Rows.{at}
 use Rattle.rows.specs.Layout.{end_offset}
 use Rattle.rows.specs.Seen.{table_of, HoldsTable}
-use Rattle.rows.proofs.Slices.{length_part, at_part}
+use Rattle.field.proofs.Rows.{length_part, at_part}
 use Rattle.rows.proofs.Held.{row_long, row_same, held_but_end, held_weighs}
 use Rattle.operations.proofs.adjusting.scale.Goals as goal
 

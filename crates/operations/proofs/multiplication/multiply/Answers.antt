@@ -1,8 +1,8 @@
 use Rattle.std.proofs.Common.{rules, ap₂, ◌*◌, ◌∙◌, length, arith}
 use Rattle.series.specs.Operations.{product_table, crossed}
 use Rattle.series.proofs.ProductTables.{product_weight}
-use Rattle.rows.specs.Memory.{at}
-use Rattle.rows.specs.Seen.{table_of, RowOf}
+use Rattle.field.specs.Rows.{at, RowOf}
+use Rattle.rows.specs.Seen.{table_of}
 use Rattle.rows.proofs.Held.{held_weighs}
 use Rattle.operations.proofs.Products.{products_of}
 use Rattle.rows.proofs.Writing.{held_by_calls}

@@ -1,7 +1,6 @@
 use Rattle.std.proofs.Common.{ap₂, ◌∙◌, length, arith}
 use Rattle.rows.proofs.Layouts.{matrix_row}
-use Rattle.rows.proofs.Memory.{at_read}
-use Rattle.rows.proofs.Slices.{filled_more}
+use Rattle.field.proofs.Rows.{at_read, filled_more}
 use Rattle.operations.proofs.multiplication.write_products.Goals as goal
 
 pub loop-p-preserved : goal.loop-p-preserved

@@ -1,6 +1,6 @@
 use Rattle.series.specs.Operations.{crossed}
-use Rattle.rows.specs.Memory.{at}
-use Rattle.rows.proofs.Slices.{Filled}
+use Rattle.field.specs.Rows.{at}
+use Rattle.field.proofs.Rows.{Filled}
 use Rattle.operations.proofs.multiplication.write_products.Given as goal
 
 abbrev pub invariant-loop-p : goal.invariant-loop-p

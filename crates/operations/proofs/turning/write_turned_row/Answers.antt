@@ -1,8 +1,7 @@
 use Rattle.std.proofs.Common.{ap, ◌∙◌, arith}
 use Rattle.std.proofs.lemmas.Nat.{mul-add-lt}
-use Rattle.rows.specs.Memory.{at}
-use Rattle.rows.proofs.Memory.{at_read}
-use Rattle.rows.proofs.Slices.{filled_more}
+use Rattle.field.specs.Rows.{at}
+use Rattle.field.proofs.Rows.{at_read, filled_more}
 use Rattle.operations.proofs.turning.write_turned_row.Goals as goal
 
 pub loop-j-preserved : goal.loop-j-preserved

@@ -1,5 +1,5 @@
-use Rattle.rows.specs.Memory.{square_at}
-use Rattle.rows.proofs.Slices.{Filled}
+use Rattle.field.specs.Rows.{square_at}
+use Rattle.field.proofs.Rows.{Filled}
 use Rattle.operations.proofs.turning.write_turned_row.Given as goal
 
 abbrev pub invariant-loop-j : goal.invariant-loop-j

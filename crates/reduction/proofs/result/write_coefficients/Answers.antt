@@ -1,5 +1,5 @@
 use Rattle.std.proofs.Common.{◌+◌, length, refl, arith}
-use Rattle.rows.specs.Memory.{row_at}
+use Rattle.field.specs.Rows.{row_at}
 use Rattle.rows.proofs.Slices.{row_part}
 use Rattle.rows.proofs.Held.{row_copied}
 use Rattle.spanning.specs.Places.{coefficients_at}

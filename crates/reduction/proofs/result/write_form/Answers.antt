@@ -1,10 +1,10 @@
 use Rattle.std.proofs.Common.{rules, length, refl, ap, ◌∙◌}
-use Rattle.series.specs.Tables.{dot}
+use Rattle.field.specs.Sums.{dot}
 use Rattle.series.proofs.Weights.{dot_comm}
-use Rattle.rows.specs.Memory.{at, row_at}
+use Rattle.field.specs.Rows.{at, row_at, RowOf}
 use Rattle.rows.specs.Layout.{table_size}
-use Rattle.rows.specs.Seen.{table_of, RowOf}
-use Rattle.rows.proofs.Sums.{dot_same}
+use Rattle.rows.specs.Seen.{table_of}
+use Rattle.field.proofs.Rows.{dot_same}
 use Rattle.rows.proofs.Held.{row_long, row_same}
 use Rattle.rows.proofs.Writing.{held_by_calls}
 use Rattle.spanning.specs.Places.{vector_at, coefficients_at}

@@ -1,5 +1,5 @@
 use Rattle.std.proofs.Common.{arith}
-use Rattle.rows.proofs.Slices.{filled_more}
+use Rattle.field.proofs.Rows.{filled_more}
 use Rattle.rows.proofs.row.clear_row.Goals as goal
 
 pub loop-x-preserved : goal.loop-x-preserved

@@ -1,4 +1,4 @@
-use Rattle.rows.proofs.Slices.{Filled}
+use Rattle.field.proofs.Rows.{Filled}
 use Rattle.rows.proofs.row.clear_row.Given as goal
 
 abbrev pub invariant-loop-x : goal.invariant-loop-x

@@ -1,8 +1,8 @@
 use Rattle.std.proofs.Common.{ap, ◌∙◌, arith, length, ◌+◌, ◌*◌}
 use Rattle.std.proofs.lemmas.Nat.{mul-le}
-use Rattle.rows.specs.Memory.{at}
-use Rattle.rows.proofs.Sums.{dot_same}
-use Rattle.rows.proofs.Slices.{filled_more, dot_part}
+use Rattle.field.specs.Rows.{at}
+use Rattle.field.proofs.Rows.{dot_same, filled_more}
+use Rattle.rows.proofs.Slices.{dot_part}
 use Rattle.rows.proofs.row.matrix_times_column.Goals as goal
 
 pub loop-i-preserved : goal.loop-i-preserved

@@ -1,7 +1,7 @@
 use Rattle.std.proofs.Common.{length}
-use Rattle.series.specs.Tables.{dot}
-use Rattle.rows.specs.Memory.{at, square_at}
-use Rattle.rows.proofs.Slices.{Filled}
+use Rattle.field.specs.Sums.{dot}
+use Rattle.field.specs.Rows.{at, square_at}
+use Rattle.field.proofs.Rows.{Filled}
 use Rattle.rows.proofs.row.matrix_times_column.Given as goal
 
 abbrev pub invariant-loop-i : goal.invariant-loop-i

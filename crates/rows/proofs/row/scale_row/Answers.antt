@@ -1,6 +1,5 @@
 use Rattle.std.proofs.Common.{arith}
-use Rattle.rows.proofs.Memory.{at_read}
-use Rattle.rows.proofs.Slices.{filled_more}
+use Rattle.field.proofs.Rows.{at_read, filled_more}
 use Rattle.rows.proofs.row.scale_row.Goals as goal
 
 pub loop-x-preserved : goal.loop-x-preserved

@@ -1,6 +1,6 @@
-use Rattle.rows.specs.Memory.{at}
+use Rattle.field.specs.Rows.{at}
 use Rattle.rows.specs.Arithmetic.{multiple}
-use Rattle.rows.proofs.Slices.{Filled}
+use Rattle.field.proofs.Rows.{Filled}
 use Rattle.rows.proofs.row.scale_row.Given as goal
 
 abbrev pub invariant-loop-x : goal.invariant-loop-x

@@ -1,6 +1,6 @@
 use Rattle.std.proofs.Common.{arith, ◌*◌, ◌+◌, ◌≤◌, length, ◌∙◌}
 use Rattle.rows.proofs.Layouts.{matrix_row}
-use Rattle.rows.proofs.Slices.{length_part}
+use Rattle.field.proofs.Rows.{length_part}
 use Rattle.rows.proofs.Writing.{progress_more, progress_all}
 use Rattle.rows.proofs.table_parts.write_rows.Goals as goal
 

@@ -1,7 +1,8 @@
 use Rattle.std.proofs.Common.{◌∙◌, ap, refl, subst, arith, rules, take, take_all}
 use Rattle.std.proofs.lemmas.Option.{MatchOption-at_none, MatchOption-at_some}
 use Rattle.series.specs.Words.{Over}
-use Rattle.series.specs.Tables.{row, move}
+use Rattle.field.specs.Sums.{move}
+use Rattle.series.specs.Tables.{row}
 use Rattle.rows.specs.Seen.{table_of}
 use Rattle.rows.proofs.Parts.{row_product}
 use Rattle.rows.proofs.Slices.{dot_seen}

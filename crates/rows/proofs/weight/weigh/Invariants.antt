@@ -1,7 +1,7 @@
 use Rattle.std.proofs.Common.{◌≡◌, length, take}
 use Rattle.series.specs.Words.{Over}
-use Rattle.series.specs.Tables.{row, Agree}
-use Rattle.rows.specs.Memory.{at}
+use Rattle.field.specs.Rows.{Agree, at}
+use Rattle.series.specs.Tables.{row}
 use Rattle.rows.specs.Seen.{table_of}
 use Rattle.rows.proofs.weight.weigh.Given as goal
 

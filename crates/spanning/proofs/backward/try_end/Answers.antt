@@ -1,5 +1,6 @@
 use Rattle.std.proofs.Common.{sym, ◌∙◌, subst}
-use Rattle.rows.specs.Seen.{RowOf, table_of}
+use Rattle.field.specs.Rows.{RowOf}
+use Rattle.rows.specs.Seen.{table_of}
 use Rattle.spanning.proofs.SpanningColumns.{end_skip, end_keep}
 use Rattle.spanning.proofs.backward.try_end.Goals as goal
 

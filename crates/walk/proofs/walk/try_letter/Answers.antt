@@ -1,6 +1,6 @@
 use Rattle.std.proofs.Common.{◌≡◌, ◌+◌, ◌*◌, ◌∷◌, [], ◌++◌, length, drop, ap, ◌∙◌, arith}
-use Rattle.series.specs.Tables.{pair, Agree}
-use Rattle.rows.specs.Memory.{at}
+use Rattle.field.specs.Rows.{Agree, at}
+use Rattle.series.specs.Tables.{pair}
 use Rattle.elimination.proofs.Offsets.{rows_room}
 use Rattle.walk.specs.Pairs.{width, left_table, right_table}
 use Rattle.walk.specs.Walking.{kept}

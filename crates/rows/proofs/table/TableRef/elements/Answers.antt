@@ -1,5 +1,6 @@
 use Rattle.std.proofs.Common.{◌+◌, sym, ap, ◌∙◌, arith}
-use Rattle.rows.proofs.Slices.{length_part, table_part}
+use Rattle.field.proofs.Rows.{length_part}
+use Rattle.rows.proofs.Slices.{table_part}
 use Rattle.rows.proofs.table.TableRef.elements.Goals as goal
 
 pub returns-clause-holds_it : goal.returns-clause-holds_it

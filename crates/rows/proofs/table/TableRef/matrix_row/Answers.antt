@@ -1,6 +1,6 @@
 use Rattle.std.proofs.Common.{ap, ◌∙◌, ◌+◌, ◌*◌, arith}
 use Rattle.std.proofs.lemmas.Nat.{mul-le}
-use Rattle.rows.specs.Memory.{at}
+use Rattle.field.specs.Rows.{at}
 use Rattle.rows.proofs.Slices.{row_part}
 use Rattle.rows.proofs.table.TableRef.matrix_row.Goals as goal
 
