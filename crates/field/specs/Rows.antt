@@ -1,6 +1,7 @@
 -- The values that slices of elements stand for: rows and matrices. Assumes nothing.
-use Rattle.std.specs.Prelude.{◌≡◌, ℕ, ◌+◌, ◌*◌, ◌<◌, List, map, length, slice_index_or}
+use Rattle.std.specs.Prelude.{◌≡◌, ℕ, ◌+◌, ◌*◌, ◌<◌, List, map, length, slice_index, slice_index_or}
 use Rattle.field.specs.FiniteField.{FiniteField}
+use Rattle.field.specs.Sums.{dot, move, less_multiple, less_rows}
 
 module _ {F V : Type 0} (K : FiniteField V) (value : F → V) where
   -- the value of the element at i; zero past the end
@@ -14,6 +15,22 @@ module _ {F V : Type 0} (K : FiniteField V) (value : F → V) where
   -- the matrix that begins at a, by rows of n entries
   abbrev pub square_at : List F → ℕ → ℕ → ℕ → ℕ → V
   square_at xs a n i j = at xs (a + (i * n + j))
+
+  -- the row xs times the column of ys whose elements lie `step` apart from `column` on
+  abbrev pub column_product : List F → List F → ℕ → ℕ → V
+  column_product xs ys column step = dot K (length xs) (at xs) (λ i. at ys (column + i * step))
+
+  -- the row xs times the matrix ms of as many rows and columns
+  abbrev pub matrix_product : List F → List F → ℕ → V
+  matrix_product xs ms = move K (length xs) (square_at ms 0 (length xs)) (at xs)
+
+  -- the row xs less the factor times the row ys
+  abbrev pub row_less_multiple : List F → V → List F → ℕ → V
+  row_less_multiple xs factor ys = less_multiple K (at xs) factor (at ys)
+
+  -- the row xs, from which the first rows of ms are taken one after another: each as often as what is left has at its pivot
+  abbrev pub row_less_rows : List F → List F → List ℕ → ℕ → V
+  row_less_rows xs ms pivots = less_rows K (length pivots) (square_at ms 0 (length xs)) (λ b. slice_index pivots b) (at xs)
 
 -- the first n entries of two rows are the same
 abbrev pub Agree : {V : Type 0} → ℕ → (ℕ → V) → (ℕ → V) → Type 0

@@ -4,8 +4,7 @@
 
 ghost use Rattle.std.specs.Prelude.{◌≡◌, ℕ, ◌+◌, ◌*◌, ◌<◌, ◌≤◌, length, slice_index, Decides, MatchOption, ◌≢◌};
 ghost use Rattle.field.specs.FiniteField.{FiniteField};
-ghost use Rattle.field.specs.Sums.{dot as product, move, less_multiple, less_rows};
-ghost use Rattle.field.specs.Rows.{at, square_at, RowOf};
+ghost use Rattle.field.specs.Rows.{RowOf, column_product, matrix_product, row_less_multiple, row_less_rows};
 
 pub trait Field: Copy {
     // The values that elements stand for.
@@ -51,11 +50,13 @@ pub trait Field: Copy {
     fn order() -> u64
         ensures is_order { result ≡ field.q };
 
+    // The methods below have bodies that rest on the laws alone: a field owes none of them, and one that knows a faster
+    // way writes its own.
+
     /// The row times the column of `ys` whose elements lie `step` apart from `column` on.
-    // This and the next ones have bodies that rest on the laws alone; a field that knows a faster way writes its own.
     fn dot(row: &[Self], ys: &[Self], column: usize, step: usize) -> Self
         requires column_within { (i : ℕ) → i < length row.now → column + i * step < length ys.now }
-        ensures is_dot_product { value result ≡ product field (length row.now) (at field value row.now) (λ i. at field value ys.now (column + i * step)) }
+        ensures is_dot_product { value result ≡ column_product field value row.now ys.now column step }
     {
         let mut sum = Self::zero();
         for (i, x) in row.iter().enumerate() {
@@ -68,7 +69,7 @@ pub trait Field: Copy {
     fn row_times_matrix(row: &[Self], matrix: &[Self], to: &mut [Self])
         requires square { length matrix.now ≡ length row.now * length row.now }
         requires as_long { length to.old ≡ length row.now }
-        ensures product_written { RowOf field value (length row.now) (move field (length row.now) (square_at field value matrix.now 0 (length row.now)) (at field value row.now)) to.new }
+        ensures product_written { RowOf field value (length row.now) (matrix_product field value row.now matrix.now) to.new }
     {
         for (j, x) in to.iter_mut().enumerate() {
             *x = Self::dot(row, matrix, j, row.len());
@@ -78,7 +79,7 @@ pub trait Field: Copy {
     /// Takes `factor` times another row from the row.
     fn subtract_multiple(row: &mut [Self], factor: Self, other: &[Self])
         requires as_long { length other.now ≡ length row.old }
-        ensures difference_written { RowOf field value (length row.old) (less_multiple field (at field value row.old) (value factor) (at field value other.now)) row.new }
+        ensures difference_written { RowOf field value (length row.old) (row_less_multiple field value row.old (value factor) other.now) row.new }
     {
         // `other[j]`: after a `zip` with `iter_mut` nothing is known of the elements.
         for (j, x) in row.iter_mut().enumerate() {
@@ -86,11 +87,12 @@ pub trait Field: Copy {
         }
     }
 
-    /// Takes from the row, one after another, the first rows of `rows`, each as often as what is left has at its pivot.
+    /// Takes from the row, one after another, the first rows of `rows`, one for each pivot: each as often as what is
+    /// left of the row has at that pivot.
     fn subtract_rows(row: &mut [Self], rows: &[Self], pivots: &[usize])
         requires rows_within { length pivots.now * length row.old ≤ length rows.now }
         requires pivots_within { (b : ℕ) → b < length pivots.now → slice_index pivots.now b < length row.old }
-        ensures rest_written { RowOf field value (length row.old) (less_rows field (length pivots.now) (square_at field value rows.now 0 (length row.old)) (λ b. slice_index pivots.now b) (at field value row.old)) row.new }
+        ensures rest_written { RowOf field value (length row.old) (row_less_rows field value row.old rows.now pivots.now) row.new }
     {
         let n = row.len();
         for (b, pivot) in pivots.iter().enumerate() {

@@ -1,6 +1,6 @@
 -- Numbers that stand for residues: sums, products and remainders of them. Assumes nothing.
-use Rattle.std.proofs.Common.{◌≡◌, ℕ, zero, suc, ◌+◌, ◌-◌, ◌*◌, ◌%◌, ◌<◌, ◌≤◌, ◌≢◌, List, [], ◌∷◌, length, take, get_or, set, sym, ap, ap₂, ◌∙◌, subst, refl, ⊎_elim, mod-lt, mod-eq_of_lt, arith}
-use Rattle.std.proofs.Math.Nat.{add-mod, add-mod-mod, mod-add-mod}
+use Rattle.std.proofs.Common.{◌≡◌, ℕ, zero, suc, ◌+◌, ◌*◌, ◌%◌, ◌<◌, ◌≤◌, List, [], ◌∷◌, length, take, get_or, set, sym, ap, ap₂, ◌∙◌, subst, ⊎_elim, mod-eq_of_lt, arith}
+use Rattle.std.proofs.Math.Nat.{add-mod}
 use Rattle.std.proofs.lemmas.Bool.{cases_eq, cases_lt}
 use Rattle.std.proofs.lemmas.Nat.{mul-le}
 use Rattle.std.proofs.lemmas.List.{get_or-map, get_or-set_same, get_or-set_other, get_or-take, get_or_past, length-take}
@@ -12,7 +12,7 @@ use Rattle.field.proofs.Rows.{sum_more, less_rows_more}
 use Rattle.residue.specs.Prime.{Prime}
 use Rattle.residue.specs.Remainders.{mul_mod_l, mul_mod_r}
 use Rattle.residue.specs.Residues.{residues, residue_of, positive}
-use Rattle.residue.specs.Sums.{UpTo, more}
+use Rattle.residue.specs.Sums.{UpTo, plus_multiple}
 
 module _ {p : ℕ} (pr : Prime p) where
   pub residue_plus : (a b : ℕ) → residue_of p pr (a + b) ≡ (residues p pr).plus (residue_of p pr a) (residue_of p pr b)
@@ -38,7 +38,7 @@ module _ {p : ℕ} (pr : Prime p) where
   at_number xs i h = sym (get_or-map (residue_of p pr) xs i 0 (residues p pr).zero h)
 
 -- products of two numbers up to 65537
-pub product_small : (a b : ℕ) → a ≤ 65537 → b ≤ 65537 → a * b ≤ 4295098369
+pub product_small : (a b : ℕ) → a ≤ 65537 → b ≤ 65537 → a * b ≤ 65537 * 65537
 product_small a b h l = mul-le a b 65537 65537 h l
 
 pub up_to_set : (b : ℕ) (xs : List ℕ) (j x : ℕ) → j < length xs → UpTo b xs → x ≤ b → UpTo b (set xs j x)
@@ -79,7 +79,7 @@ module _ {p : ℕ} (pr : Prime p) where
 
   -- a row times a matrix of one row more
   pub stand_times : (n i c : ℕ) (m : ℕ → ℕ → Below p) (x y : ℕ → Below p) (xs ys : List ℕ) → RowOf (residues p pr) (residue_of p pr) n (move (residues p pr) i m x) xs
-      → RowOf (residues p pr) (residue_of p pr) (length xs) (more p pr (at (residues p pr) (residue_of p pr) xs) c y) ys → residue_of p pr c ≡ x i → Agree n y (m i)
+      → RowOf (residues p pr) (residue_of p pr) (length xs) (plus_multiple pr (at (residues p pr) (residue_of p pr) xs) c y) ys → residue_of p pr c ≡ x i → Agree n y (m i)
       → RowOf (residues p pr) (residue_of p pr) n (move (residues p pr) (i + 1) m x) ys
   stand_times n i c m x y xs ys s t e a = record {
     len = t.len ∙ s.len;
@@ -91,7 +91,7 @@ module _ {p : ℕ} (pr : Prime p) where
 
   -- a row, from which one row more is taken
   pub stand_less : (n b c : ℕ) (q : ℕ → ℕ → Below p) (v : ℕ → ℕ) (x y : ℕ → Below p) (xs ys : List ℕ) → RowOf (residues p pr) (residue_of p pr) n (less_rows (residues p pr) b q v x) xs
-      → RowOf (residues p pr) (residue_of p pr) (length xs) (more p pr (at (residues p pr) (residue_of p pr) xs) c y) ys → residue_of p pr c ≡ (residues p pr).opposite (less_rows (residues p pr) b q v x (v b)) → Agree n y (q b)
+      → RowOf (residues p pr) (residue_of p pr) (length xs) (plus_multiple pr (at (residues p pr) (residue_of p pr) xs) c y) ys → residue_of p pr c ≡ (residues p pr).opposite (less_rows (residues p pr) b q v x (v b)) → Agree n y (q b)
       → RowOf (residues p pr) (residue_of p pr) n (less_rows (residues p pr) (b + 1) q v x) ys
   stand_less n b c q v x y xs ys s t e a = record {
     len = t.len ∙ s.len;
@@ -103,7 +103,7 @@ module _ {p : ℕ} (pr : Prime p) where
 
   -- sums of nothing, to which a row is added
   pub stand_start : (n : ℕ) (x : ℕ → Below p) (xs ys : List ℕ) → RowOf (residues p pr) (residue_of p pr) n (λ _. (residues p pr).zero) xs
-      → RowOf (residues p pr) (residue_of p pr) (length xs) (more p pr (at (residues p pr) (residue_of p pr) xs) 1 x) ys → RowOf (residues p pr) (residue_of p pr) n x ys
+      → RowOf (residues p pr) (residue_of p pr) (length xs) (plus_multiple pr (at (residues p pr) (residue_of p pr) xs) 1 x) ys → RowOf (residues p pr) (residue_of p pr) n x ys
   stand_start n x xs ys s t = record {
     len = t.len ∙ s.len;
     same = λ j l.

@@ -12,7 +12,7 @@ mod sums;
 use crate::sums::{add_multiple, residue, with_room, write_residues};
 use field::Field;
 
-/// Rows of at most so many entries have their sums side by side.
+/// The longest row whose sums lie side by side in an array: the rows of two tables of 16 states.
 const NARROW: usize = 32;
 
 /// GF(2).
@@ -110,7 +110,7 @@ where
         u64::from(P)
     }
 
-    // A sum is reduced before it grows too large, so that a row of any length will do.
+    // The sum is reduced before it grows too large, so the row may have any length.
     fn dot(row: &[Residue<P>], ys: &[Residue<P>], column: usize, step: usize) -> Residue<P> {
         let mut sum = 0;
         for (i, x) in row.iter().enumerate() {
@@ -119,9 +119,10 @@ where
         residue(sum)
     }
 
-    // Row by row of the matrix: so the entries of a row are taken side by side.
+    // Row by row of the matrix, so that the entries of a row are multiplied side by side.
     fn row_times_matrix(row: &[Residue<P>], matrix: &[Residue<P>], to: &mut [Residue<P>]) {
         let n = row.len();
+        // The loop of the method that this one replaces, which cannot be called from here.
         if n > NARROW {
             for (j, x) in to.iter_mut().enumerate() {
                 *x = Self::dot(row, matrix, j, n);
@@ -136,8 +137,11 @@ where
         write_residues(sums, to);
     }
 
+    // A multiple is taken by adding P less the factor times the row; the remainder of an entry is taken where it is a
+    // pivot's, and at the end.
     fn subtract_rows(row: &mut [Residue<P>], rows: &[Residue<P>], pivots: &[usize]) {
         let n = row.len();
+        // As above, the loop of the method that this one replaces.
         if n > NARROW || pivots.len() > NARROW {
             for (b, pivot) in pivots.iter().enumerate() {
                 let factor = row[*pivot];

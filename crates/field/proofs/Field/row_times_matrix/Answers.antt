@@ -1,5 +1,4 @@
-use Rattle.std.proofs.Common.{ap, ◌∙◌, arith, length, refl}
-use Rattle.field.specs.Rows.{at}
+use Rattle.std.proofs.Common.{◌∙◌, arith, length}
 use Rattle.field.proofs.Rows.{filled_more, move_by_dot}
 use Rattle.field.proofs.Field.row_times_matrix.Goals as goal
 

@@ -1,4 +1,4 @@
-use Rattle.std.proofs.Common.{ℕ, ◌+◌, ◌*◌, length, get_or, refl, ap, ap₂, ◌∙◌, arith}
+use Rattle.std.proofs.Common.{ℕ, ◌+◌, ◌*◌, length, get_or, ap, ap₂, ◌∙◌, arith}
 use Rattle.std.proofs.lemmas.Nat.{mul-le}
 use Rattle.field.specs.Rows.{at, square_at}
 use Rattle.field.specs.Sums.{less_rows}
@@ -25,6 +25,6 @@ loop-b-preserved g c =
       same = λ j l.
           less.same j (omega (arith, w.len))
           ∙ ap₂ (λ e f. K.plus e (K.opposite f)) (w.same j l)
-            (ap₂ K.times read (at_part K v (b * n) (b * n + n) a.rows.now j (omega arith) ∙ ap (at K v a.rows.now) (omega arith)))
+          (ap₂ K.times read (at_part K v (b * n) (b * n + n) a.rows.now j (omega arith) ∙ ap (at K v a.rows.now) (omega arith)))
           ∙ ap (λ r. r j) (less_rows_more K b q p (at K v a.row.now));
     }

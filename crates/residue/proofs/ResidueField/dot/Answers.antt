@@ -1,4 +1,4 @@
-use Rattle.std.proofs.Common.{◌≡◌, ℕ, ◌+◌, ◌*◌, ◌≤◌, ◌<◌, ap, ap₂, ◌∙◌, arith, mod-eq_of_lt}
+use Rattle.std.proofs.Common.{◌≡◌, ◌+◌, ◌*◌, ◌≤◌, ap, ap₂, ◌∙◌, arith, mod-eq_of_lt}
 use Rattle.field.specs.Below.{same_below}
 use Rattle.field.specs.Rows.{at}
 use Rattle.field.proofs.Rows.{at_read, sum_more}
@@ -24,13 +24,13 @@ loop-i-preserved g c =
     let y = c.index-ys-column.result in
     let kept = c.with_room.result in
     let e : c.from.result * c.from-in-loop-i.result ≡ x.n * y.n = cc in
-    let small : x.n * y.n ≤ 4295098369 = product_small x.n y.n (omega (arith, x.below, pr.high)) (omega (arith, y.below, pr.high)) in
+    let small : x.n * y.n ≤ 65537 * 65537 = product_small x.n y.n (omega (arith, x.below, pr.high)) (omega (arith, y.below, pr.high)) in
     record {
-      small = omega (arith, e, small, c.with_room.ensures.small);
+      small = omega (arith, e, small, c.with_room.ensures.room);
       stands =
           ap (λ z. r (kept + z)) e ∙ residue_more pr kept x.n (value_of y)
           ∙ ap₂ K.plus (c.with_room.ensures.same_residue ∙ w.stands)
-            (ap₂ K.times (residue_same pr (value_of x) ∙ at_read K value_of a.row.now i x (omega arith) c.index-row-i.is)
-             (at_read K value_of a.ys.now (a.column + i * a.step) y (c.requires.column_within i (omega arith)) c.index-ys-column.is))
+          (ap₂ K.times (residue_same pr (value_of x) ∙ at_read K value_of a.row.now i x (omega arith) c.index-row-i.is)
+          (at_read K value_of a.ys.now (a.column + i * a.step) y (c.requires.column_within i (omega arith)) c.index-ys-column.is))
           ∙ sum_more K i (λ k. K.times (at K value_of a.row.now k) (at K value_of a.ys.now (a.column + k * a.step)));
     }

@@ -1,9 +1,9 @@
-use Rattle.std.proofs.Common.{ℕ, ◌≡◌, ◌+◌, ◌*◌, ◌≤◌, ap, ◌∙◌, arith, length, refl}
+use Rattle.std.proofs.Common.{◌+◌, ◌*◌, ap, ◌∙◌, arith, length}
 use Rattle.std.proofs.lemmas.List.{length-take-le}
 use Rattle.std.proofs.lemmas.Nat.{mul-le}
 use Rattle.field.specs.Rows.{at, square_at}
 use Rattle.field.proofs.Rows.{filled_more, move_by_dot, at_read, at_part}
-use Rattle.residue.specs.Residues.{residues, residue_of}
+use Rattle.residue.specs.Residues.{residues}
 use Rattle.residue.specs.Sums.{value_of}
 use Rattle.residue.proofs.Late.{residue_same, zeros, up_to_start, stand_zero, stand_times}
 use Rattle.residue.proofs.ResidueField.row_times_matrix.Goals as goal
@@ -32,7 +32,7 @@ loop-i-preserved g c =
     let w = c.loop-i.invariant in
     let x = c.index-row-i.result in
     let room = mul-le (i + 1) n n n (omega arith) (omega arith) in
-    let more = c.add_multiple.ensures.little_more (i * 4295098369) w.small in
+    let more = c.add_multiple.ensures.grown_by_one_product (i * (65537 * 65537)) w.small in
     record {
       stand = stand_times pr n i x.n (square_at K value_of a.matrix.now 0 n) (at K value_of a.row.now) _ c.loop-i.sums _ w.stand c.add_multiple.ensures.multiple_added
           (residue_same pr (value_of x) ∙ at_read K value_of a.row.now i x (omega arith) c.index-row-i.is)

@@ -18,5 +18,5 @@ invariant-loop-i g l =
     let n = length l.row in
     record {
       stand : RowOf K (residue_of g.row.P pr) n (move K l.i (square_at K value_of l.matrix 0 n) (at K value_of l.row)) l.sums;
-      small : UpTo (l.i * 4295098369) l.sums;
+      small : UpTo (l.i * (65537 * 65537)) l.sums;
     }

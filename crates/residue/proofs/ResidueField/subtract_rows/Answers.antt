@@ -1,10 +1,10 @@
-use Rattle.std.proofs.Common.{ℕ, ◌≡◌, ◌+◌, ◌-◌, ◌*◌, ◌≤◌, ◌<◌, length, get_or, ap, ap₂, ◌∙◌, sym, arith}
+use Rattle.std.proofs.Common.{ℕ, ◌≡◌, ◌+◌, ◌-◌, ◌*◌, length, get_or, ap, ap₂, ◌∙◌, sym, arith}
 use Rattle.std.proofs.lemmas.List.{length-take-le}
 use Rattle.std.proofs.lemmas.Nat.{mul-le}
 use Rattle.field.specs.Rows.{at, square_at}
 use Rattle.field.specs.Sums.{less_rows}
 use Rattle.field.proofs.Rows.{at_read, at_part, less_rows_more}
-use Rattle.residue.specs.Residues.{residues, residue_of}
+use Rattle.residue.specs.Residues.{residues}
 use Rattle.residue.specs.Sums.{value_of}
 use Rattle.residue.proofs.Late.{zeros, up_to_start, at_number, stand_zero, stand_start, stand_less}
 use Rattle.residue.proofs.ResidueField.subtract_rows.Goals as goal
@@ -28,7 +28,7 @@ loop-b-preserved g c =
       same = λ j l.
           less.same j (omega (arith, w.len))
           ∙ ap₂ (λ e f. K.plus e (K.opposite f)) (w.same j l)
-            (ap₂ K.times read (at_part K value_of (b * n) (b * n + n) a.rows.now j (omega arith) ∙ ap (at K value_of a.rows.now) (omega arith)))
+          (ap₂ K.times read (at_part K value_of (b * n) (b * n + n) a.rows.now j (omega arith) ∙ ap (at K value_of a.rows.now) (omega arith)))
           ∙ ap (λ r. r j) (less_rows_more K b q p (at K value_of a.row.now));
     }
 
@@ -44,7 +44,7 @@ loop-b-2-init g c =
     let u = up_to_start n 32 in
     record {
       stand = stand_start pr n (at K value_of c.args.row.now) _ _ (stand_zero pr n _ (length-take-le n (zeros 32) (omega arith)) u) c.add_multiple.ensures.multiple_added;
-      small = λ j. omega (arith, c.add_multiple.ensures.little_more 0 u j);
+      small = λ j. omega (arith, c.add_multiple.ensures.grown_by_one_product 0 u j);
     }
 
 pub loop-b-2-preserved : goal.loop-b-2-preserved
@@ -61,8 +61,8 @@ loop-b-2-preserved g c =
     let room = mul-le (b + 1) n count n (omega arith) (omega arith) in
     let inside = c.requires.pivots_within b (omega arith) in
     let factor : value_of c.residue-factor.result ≡ less_rows K b q p x (p b) =
-        c.residue-factor.ensures.is_residue ∙ at_number pr c.loop-b-2.sums (p b) (omega (arith, w.stand.len, inside)) ∙ w.stand.same (p b) inside in
-    let more = c.add_multiple-in-loop-b-2.ensures.little_more ((b + 1) * 4295098369) w.small in
+    c.residue-factor.ensures.is_residue ∙ at_number pr c.loop-b-2.sums (p b) (omega (arith, w.stand.len, inside)) ∙ w.stand.same (p b) inside in
+    let more = c.add_multiple-in-loop-b-2.ensures.grown_by_one_product ((b + 1) * (65537 * 65537)) w.small in
     record {
       stand = stand_less pr n b (g.row.P - c.residue-factor.result.n) q p x _ c.loop-b-2.sums _ w.stand c.add_multiple-in-loop-b-2.ensures.multiple_added
           (ap K.opposite factor)

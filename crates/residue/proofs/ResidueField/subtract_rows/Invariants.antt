@@ -17,5 +17,5 @@ invariant-loop-b-2 g l =
     let n = length l.row in
     record {
       stand : RowOf K (residue_of g.row.P pr) n (less_rows K l.b (square_at K value_of l.rows 0 n) (λ b. get_or l.pivots b 0) (at K value_of l.row)) l.sums;
-      small : UpTo ((l.b + 1) * 4295098369) l.sums;
+      small : UpTo ((l.b + 1) * (65537 * 65537)) l.sums;
     }

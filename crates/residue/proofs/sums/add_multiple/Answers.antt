@@ -1,4 +1,4 @@
-use Rattle.std.proofs.Common.{◌≡◌, ℕ, ◌+◌, ◌*◌, ◌≤◌, ◌<◌, get_or, ap, ap₂, ◌∙◌, arith, length}
+use Rattle.std.proofs.Common.{◌≡◌, ◌+◌, ◌*◌, ◌≤◌, ◌<◌, get_or, ap, ap₂, ◌∙◌, arith, length}
 use Rattle.std.proofs.lemmas.List.{get_or-set_other}
 use Rattle.field.proofs.Rows.{filled_more, at_read}
 use Rattle.residue.specs.Residues.{residues, residue_of}
@@ -17,12 +17,12 @@ loop-j-preserved g c =
     let inside : j < length xs = omega (arith, w.filled.len, c.requires.as_long) in
     let factor = c.args.factor in
     let e : c.from.result * c.from-in-loop-j.result ≡ factor * y.n = cc in
-    let small : factor * y.n ≤ 4295098369 = product_small factor y.n (c.requires.small_factor) (omega (arith, y.below, pr.high)) in
+    let small : factor * y.n ≤ 65537 * 65537 = product_small factor y.n (c.requires.small_factor) (omega (arith, y.below, pr.high)) in
     record {
       filled = filled_more K r _ w.filled inside
           (ap (λ z. r (get_or xs j 0 + z)) e
           ∙ residue_more pr (get_or xs j 0) factor (value_of y)
           ∙ ap₂ K.plus (at_number pr xs j inside ∙ w.filled.rest j (omega arith)) (ap (K.times (r factor)) (at_read K value_of c.args.row.now j y (omega arith) c.index-row-j.is)));
       rest = λ i l. get_or-set_other xs j i _ 0 (omega arith) ∙ w.rest i (omega arith);
-      little = λ b u. up_to_set (b + 4295098369) xs j _ inside (w.little b u) (omega (arith, e, small, w.rest j (omega arith), u j));
+      little = λ b u. up_to_set (b + 65537 * 65537) xs j _ inside (w.little b u) (omega (arith, e, small, w.rest j (omega arith), u j));
     }

@@ -1,4 +1,4 @@
-use Rattle.std.proofs.Common.{◌≡◌, ◌%◌, ap}
+use Rattle.std.proofs.Common.{◌≡◌, ◌%◌}
 use Rattle.field.specs.Below.{same_below}
 use Rattle.residue.proofs.sums.residue.Goals as goal
 
