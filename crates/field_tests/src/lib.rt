@@ -142,4 +142,36 @@ mod tests {
         assert_eq!(rt; again.code(), 1);
         Ok(())
     }
+
+    // Each entry is -1. Of a square matrix of -1 a row of -1 makes the number of rows; a row of -1 less its own first entry
+    // times a row of 1 is zero.
+    #[test]
+    fn rows_of_residues_wider_than_two_tables(rt: HostRuntime) {
+        let minus_one = Fermat::one().neg();
+        let row = [minus_one; 40];
+        assert_eq!(rt; Fermat::dot(&row, &row, 0, 1).code(), 40);
+        let matrix = [minus_one; 1600];
+        let mut product = [Fermat::zero(); 40];
+        Fermat::row_times_matrix(&row, &matrix, &mut product);
+        assert!(rt; product.iter().all(|x| x.code() == 40));
+        let ones = [Fermat::one(); 40];
+        let mut rest = [minus_one; 40];
+        Fermat::subtract_rows(&mut rest, &ones, &[39]);
+        assert!(rt; rest.iter().all(|x| x.code() == 0));
+    }
+
+    // The same in rows of 32, as wide as the rows of two tables of 16 states: 32 products of the largest residue.
+    #[test]
+    fn rows_of_residues_as_wide_as_two_tables(rt: HostRuntime) {
+        let minus_one = Fermat::one().neg();
+        let row = [minus_one; 32];
+        let matrix = [minus_one; 1024];
+        let mut product = [Fermat::zero(); 32];
+        Fermat::row_times_matrix(&row, &matrix, &mut product);
+        assert!(rt; product.iter().all(|x| x.code() == 32));
+        let ones = [Fermat::one(); 32];
+        let mut rest = [minus_one; 32];
+        Fermat::subtract_rows(&mut rest, &ones, &[31]);
+        assert!(rt; rest.iter().all(|x| x.code() == 0));
+    }
 }
