@@ -5,7 +5,7 @@ use Rattle.std.specs.declared.option.Option.TheVariants.{Some, None}
 use Rattle.std.specs.declared.result.Result.{Result}
 use Rattle.std.specs.declared.result.Result.TheVariants.{Ok, Err}
 use Rattle.std.specs.Option.{ok_or, MatchOption}
-use Rattle.std.specs.Result.{result_or, MatchResult, IsErrAnd}
+use Rattle.std.specs.Result.{result_or, MatchResult, IfErr, IsErrAnd}
 use Rattle.std.proofs.lemmas.Result.{err_from_is_err_and}
 use Rattle.std.proofs.lemmas.List.{length-take, take-take}
 use Rattle.columns.specs.Numbers.{Begins, Broken}
@@ -22,6 +22,10 @@ use Rattle.faults.specs.declared.LineFault.TheVariants.{Column, Unexpected}
 -- what holds where a `?` returns
 pub exits : {T E : Type 0} (r : Result T E) (e : E) (P : T → Type 0) (Q : E → Type 0) → IsErrAnd r (λ y. y ≡ e) → Q e → MatchResult r P Q
 exits r e P Q gives q = let p = err_from_is_err_and r gives in rw (p.1, p.2) q
+
+-- the same of a clause on `Err` alone
+pub errs : {T E : Type 0} (r : Result T E) (e : E) (Q : E → Type 0) → IsErrAnd r (λ y. y ≡ e) → Q e → IfErr r Q
+errs r e Q gives q = let p = err_from_is_err_and r gives in rw (p.1, p.2) q
 
 -- what an `Option` was that gave an error for `None`
 pub ok_or_err : {A E : Type 0} (o : Option A) (P : Type 0) (Q : A → Type 0) {f : E} (e : E) → Err f ≡ ok_or o e → MatchOption o P Q → (f ≡ e) × P

@@ -1,5 +1,5 @@
 //! The lines of a table's text, read in place.
-ghost use Rattle.std.specs.Prelude.{◌≡◌, ◌+◌, ◌*◌, ◌≤◌, [], ◌∷◌, ◌++◌, length, MatchResult};
+ghost use Rattle.std.specs.Prelude.{◌≡◌, ◌+◌, ◌*◌, ◌≤◌, [], ◌∷◌, ◌++◌, length, OnOk, IfOk, IfErr};
 ghost use Rattle.columns.specs.Lines.{letter as letter_of, due_letter, row_due, next, numbers, TenDigits, line as line_of};
 ghost use Rattle.reader.specs.Items.{close, along, after, exact_items, line_items, Stops};
 ghost use Rattle.reader.specs.Steps.{left, Able, AtLine, Went};
@@ -20,7 +20,8 @@ fn exactly(reader: &mut Reader<'_>, values: &[u64]) -> Result<(), LoadFault>
     requires able { Able reader.old }
     requires narrow { reader.old.position.column ≤ 100 }
     requires few { length values.now ≤ 16 }
-    ensures values_or_stops { MatchResult result (λ _. TenDigits values.now × Went reader.old reader.new (numbers values.now) (along reader.old.position (11 * length values.now))) (λ f. Stops (exact_items values.now) reader.old.position (left reader.old) f) }
+    ensures values { OnOk result (TenDigits values.now × Went reader.old reader.new (numbers values.now) (along reader.old.position (11 * length values.now))) }
+    ensures stops { IfErr result (Stops (exact_items values.now) reader.old.position (left reader.old)) }
 {
     for value in values {
         reader.within(*value, *value)?;
@@ -33,7 +34,8 @@ fn codes<F: Field>(reader: &mut Reader<'_>, elements: &mut [F]) -> Result<(), Lo
     requires able { Able reader.old }
     requires narrow { reader.old.position.column ≤ 100 }
     requires few { length elements.old ≤ 16 }
-    ensures row_or_stops { MatchResult result (λ _. Went reader.old reader.new (numbers (codes_of F.field F.value elements.new)) (along reader.old.position (11 * length elements.old))) (λ f. Stops (code_items F.field (length elements.old)) reader.old.position (left reader.old) f) }
+    ensures row { OnOk result (Went reader.old reader.new (numbers (codes_of F.field F.value elements.new)) (along reader.old.position (11 * length elements.old))) }
+    ensures stops { IfErr result (Stops (code_items F.field (length elements.old)) reader.old.position (left reader.old)) }
 {
     for x in elements.iter_mut() {
         *x = reader.element()?;
@@ -53,7 +55,8 @@ pub fn codes_line<F: Field>(
     requires starts { AtLine reader.old 10000 }
     requires few_heads { length heads.now ≤ 2 }
     requires few { length elements.old ≤ 16 }
-    ensures line_or_stops { MatchResult result (λ then. Went reader.old reader.new (line_of (due_letter due) (heads.now ++ codes_of F.field F.value elements.new)) (after close reader.old.position) × (then ≡ next rows due)) (λ f. Stops (line_items (due_letter due) (exact_items heads.now ++ code_items F.field (length elements.old))) reader.old.position (left reader.old) f) }
+    ensures line { IfOk result (λ then. Went reader.old reader.new (line_of (due_letter due) (heads.now ++ codes_of F.field F.value elements.new)) (after close reader.old.position) × (then ≡ next rows due)) }
+    ensures stops { IfErr result (Stops (line_items (due_letter due) (exact_items heads.now ++ code_items F.field (length elements.old))) reader.old.position (left reader.old)) }
 {
     let then = reader.head(due, rows)?;
     exactly(reader, heads)?;
@@ -65,7 +68,8 @@ pub fn codes_line<F: Field>(
 /// Goes over the first line: what it says of the table, and the line due after it.
 pub fn table_line<F: Field>(reader: &mut Reader<'_>) -> Result<(Shape, Due), LoadFault>
     requires starts { AtLine reader.old 10000 }
-    ensures shape_or_stops { MatchResult result (λ got. Went reader.old reader.new (line_of (letter_of kind.Table) (got.0.states ∷ got.0.letters ∷ F.field.q ∷ [])) (after close reader.old.position) × (got.1 ≡ Due.Start)) (λ f. Stops (table_items F.field) reader.old.position (left reader.old) f) }
+    ensures shape { IfOk result (λ got. Went reader.old reader.new (line_of (letter_of kind.Table) (got.0.states ∷ got.0.letters ∷ F.field.q ∷ [])) (after close reader.old.position) × (got.1 ≡ Due.Start)) }
+    ensures stops { IfErr result (Stops (table_items F.field) reader.old.position (left reader.old)) }
 {
     let then = reader.head(Due::Table, 0)?;
     let states = reader.within(0, 16)?;
@@ -92,7 +96,8 @@ pub fn matrices<F: Field>(
     requires starts { AtLine reader.old 1000 }
     requires row_due { due ≡ row_due (shape.letters * shape.states) }
     requires room { length elements.old ≡ shape.letters * shape.states * shape.states }
-    ensures lines_or_stops { MatchResult result (λ then. Went reader.old reader.new (row_lines shape.states (codes_of F.field F.value elements.new) (shape.letters * shape.states)) (record { line = reader.old.position.line + shape.letters * shape.states; column = 1 }) × (then ≡ Due.End)) (λ f. Stops (row_items F.field shape.states (shape.letters * shape.states)) reader.old.position (left reader.old) f) }
+    ensures lines { IfOk result (λ then. Went reader.old reader.new (row_lines shape.states (codes_of F.field F.value elements.new) (shape.letters * shape.states)) (record { line = reader.old.position.line + shape.letters * shape.states; column = 1 }) × (then ≡ Due.End)) }
+    ensures stops { IfErr result (Stops (row_items F.field shape.states (shape.letters * shape.states)) reader.old.position (left reader.old)) }
 {
     let n = shape.states;
     let count = shape.letters * n;

@@ -1,5 +1,5 @@
 //! A whole text read into memory.
-ghost use Rattle.std.specs.Prelude.{◌≡◌, ◌+◌, ◌*◌, ◌≤◌, false, length, is_ok, MatchResult, ◌≢◌};
+ghost use Rattle.std.specs.Prelude.{◌≡◌, ◌+◌, ◌*◌, ◌≤◌, false, length, is_ok, OnOk, IfOk, IfErr, MatchResult, ◌≢◌};
 ghost use Rattle.series.specs.Tables.{Table};
 ghost use Rattle.rows.specs.Memory.{Frame};
 ghost use Rattle.rows.specs.Layout.{table_size, table_at};
@@ -25,7 +25,8 @@ fn body<F: Field>(
     requires starts { AtLine reader.old 100 }
     requires start_due { due ≡ Due.Start }
     requires room { length elements.old ≡ table_size shape.states shape.letters }
-    ensures lines_or_stops { MatchResult result (λ _. Went reader.old reader.new (body_of F.field (table_at F.field F.value elements.new 0 shape.states shape.letters)) (record { line = reader.old.position.line + (3 + shape.letters * shape.states); column = 1 })) (λ f. Stops (body_items F.field shape.states shape.letters) reader.old.position (left reader.old) f) }
+    ensures lines { OnOk result (Went reader.old reader.new (body_of F.field (table_at F.field F.value elements.new 0 shape.states shape.letters)) (record { line = reader.old.position.line + (3 + shape.letters * shape.states); column = 1 })) }
+    ensures stops { IfErr result (Stops (body_items F.field shape.states shape.letters) reader.old.position (left reader.old)) }
 {
     let n = shape.states;
     let count = shape.letters * n;
@@ -43,7 +44,8 @@ fn body<F: Field>(
 // Room for the largest table, told by a clause: how large it is, is known once it is read.
 pub fn read_table<F: Field>(text: &[u8], work: &mut [F]) -> Result<Shape, LoadFault>
     requires room { 1568 ≤ length work.old }
-    ensures accepted_or_refused { MatchResult result (λ shape. Accepts F.field F.value text.now shape work.new) (λ f. Refuses F.field text.now f) }
+    ensures accepted { IfOk result (λ shape. Accepts F.field F.value text.now shape work.new) }
+    ensures refused { IfErr result (Refuses F.field text.now) }
     ensures refused_has_no_table { is_ok result ≡ false → (T : Table F.Value) → Sized T → text.now ≢ text_of F.field T }
     ensures table_alone_written { MatchResult result (λ shape. Frame 0 (table_size shape.states shape.letters) work.old work.new) (λ _. Frame 0 1568 work.old work.new) }
 {

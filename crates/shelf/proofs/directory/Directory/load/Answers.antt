@@ -38,7 +38,7 @@ returns g c =
     let a = load c.args.text.now c.args.to in
     let z = c.in_ok-shape.shape in
     let R = table_at K v c.read_table.new.work 0 z.states z.letters in
-    let h = c.in_ok-shape.ensures.accepted_or_refused in
+    let h = c.in_ok-shape.ensures.accepted in
     let there = c.in_ok-room.ensures.room_or_refused in
     record {
       does = λ out w.
@@ -72,6 +72,6 @@ returns-in_err-shape g c =
           refused K g.F.Field.value s _ a (λ _. Done) c.from_residual-in_err-shape.result c.from_residual-in_err-shape.ensures.1
           (load_refuses K s c.args.text.now c.args.to
           (past_4 K s a [] (c.args.to ∷ []) 8192 (makes_of_none a c.args.to refl refl refl) (λ q m. absurd m) (within_one c.in_ok-to.to c.args.to c.in_ok-to.ensures) there.0 there.1 (λ q m. absurd m))
-          _ c.in_err-shape.ensures.accepted_or_refused)
+          _ c.in_err-shape.ensures.refused)
           (ap (λ n. state es mem n out w) c.read_table.auto.work);
     }
