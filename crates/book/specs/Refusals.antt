@@ -1,6 +1,5 @@
--- The number of each refusal, and the position that it tells. Assumes nothing.
-use Rattle.std.specs.Prelude.{ℕ, Option, Some, None}
-use Rattle.faults.specs.declared.Position.{Position}
+-- The number of each refusal, and its line and column. Assumes nothing.
+use Rattle.std.specs.Prelude.{ℕ}
 use Rattle.faults.specs.Refusals.{load_refusal, load_position}
 use Rattle.book.specs.declared.refusal.Refusal.{Refusal}
 use Rattle.book.specs.declared.refusal.Refusal.TheVariants.{PlaceOutside, MemoryShort, WorkShort, PlaceEmpty, LettersDiffer, StatesOver, LetterOutside, CodeOutside, OutputShort, Unreadable}
@@ -19,15 +18,15 @@ refusal_number CodeOutside = 8
 refusal_number OutputShort = 9
 refusal_number (Unreadable fault) = load_refusal fault
 
--- where the fault of an unreadable text is; no other refusal tells a position
-abbrev pub refusal_position : Refusal → Option Position
-refusal_position PlaceOutside = None
-refusal_position MemoryShort = None
-refusal_position WorkShort = None
-refusal_position PlaceEmpty = None
-refusal_position LettersDiffer = None
-refusal_position StatesOver = None
-refusal_position (LetterOutside position) = None
-refusal_position CodeOutside = None
-refusal_position OutputShort = None
-refusal_position (Unreadable fault) = Some (load_position fault)
+-- the line and column, each from 1, of an unreadable text's fault; (0, 0) for every other refusal
+abbrev pub refusal_position : Refusal → ℕ × ℕ
+refusal_position PlaceOutside = (0, 0)
+refusal_position MemoryShort = (0, 0)
+refusal_position WorkShort = (0, 0)
+refusal_position PlaceEmpty = (0, 0)
+refusal_position LettersDiffer = (0, 0)
+refusal_position StatesOver = (0, 0)
+refusal_position (LetterOutside position) = (0, 0)
+refusal_position CodeOutside = (0, 0)
+refusal_position OutputShort = (0, 0)
+refusal_position (Unreadable fault) = load_position fault

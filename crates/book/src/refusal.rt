@@ -4,12 +4,12 @@ ghost use Rattle.book.specs.Refusals.{refusal_number, refusal_position};
 ghost use Rattle.book.specs.Reasons.{refusal_reason};
 ghost use Rattle.book.specs.declared.refusal.Refusal.TheVariants.{LetterOutside as LetterRefused, Unreadable};
 
-use faults::{LoadFault, Position};
+use faults::LoadFault;
 use rows::weight::LetterOutside;
 use std::fmt;
 
-/// Why a call is refused. A letter outside tells its position in the word, from 1; an unreadable text tells line and
-/// column in its fault.
+/// Why a call is refused. `LetterOutside` has the letter's position in the word, from 1; `Unreadable` has the text's
+/// fault with its line and column.
 #[derive(Clone, Copy, Debug, PartialEq, Eq)]
 pub enum Refusal {
     PlaceOutside,
@@ -52,7 +52,7 @@ impl fmt::Display for Refusal {
 
 impl Refusal {
     /// The refusal's number, 1 to 15.
-    // The numbers are the product's: the report, the C interface and the programs tell them. A method, as for faults.
+    // The numbers are the product's: the report, the C interface and the programs use them.
     pub fn number(&self) -> u8
         ensures numbered { result ≡ refusal_number self.now }
     {
@@ -70,13 +70,13 @@ impl Refusal {
         }
     }
 
-    /// Where the fault of an unreadable text is; no other refusal tells a position.
-    pub fn position(&self) -> Option<Position>
-        ensures told { result ≡ refusal_position self.now }
+    /// The line and column of an unreadable text's fault, both from 1; (0, 0) for every other refusal.
+    pub fn position(&self) -> (u32, u32)
+        ensures line_and_column { result ≡ refusal_position self.now }
     {
         match self {
-            Refusal::Unreadable(fault) => Some(fault.position()),
-            _ => None,
+            Refusal::Unreadable(fault) => fault.position(),
+            _ => (0, 0),
         }
     }
 

@@ -1,16 +1,10 @@
--- What a text is refused for and where, in words. Assumes nothing.
-use Rattle.std.specs.Prelude.{ℕ, List, ◌++◌, codes}
-use Rattle.std.specs.Fmt.{decimal}
-use Rattle.faults.specs.declared.Position.{Position}
+-- What a text is refused for, in words. Assumes nothing.
+use Rattle.std.specs.Prelude.{ℕ, List, codes}
 use Rattle.faults.specs.declared.ColumnFault.{ColumnFault}
 use Rattle.faults.specs.declared.LineFault.{LineFault}
 use Rattle.faults.specs.declared.LineFault.TheVariants.{Column, Ends, Unexpected, Unended}
 use Rattle.faults.specs.declared.LoadFault.{LoadFault}
 use Rattle.faults.specs.declared.LoadFault.TheVariants.{Line, Value, Beyond}
-
--- a position, in ASCII
-abbrev pub position_text : Position → List ℕ
-position_text p = codes "line " ++ decimal p.line ++ codes ", column " ++ decimal p.column
 
 -- what a column's fault is, in ASCII
 abbrev pub column_reason : ColumnFault → List ℕ

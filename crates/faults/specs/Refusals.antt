@@ -1,4 +1,4 @@
--- The number of each fault, and the position that it tells. Assumes nothing.
+-- The number of each fault, and the line and column that it reports. Assumes nothing.
 use Rattle.std.specs.Prelude.{ℕ}
 use Rattle.faults.specs.declared.Position.{Position}
 use Rattle.faults.specs.declared.ColumnFault.{ColumnFault}
@@ -7,22 +7,26 @@ use Rattle.faults.specs.declared.LineFault.TheVariants.{Column, Ends, Unexpected
 use Rattle.faults.specs.declared.LoadFault.{LoadFault}
 use Rattle.faults.specs.declared.LoadFault.TheVariants.{Line, Value, Beyond}
 
--- the position that a column's fault tells
-abbrev pub column_position : ColumnFault → Position
-column_position f = f.position
+-- a position as a pair: the line and the column, each from 1
+abbrev pub line_and_column : Position → ℕ × ℕ
+line_and_column p = (p.line, p.column)
 
--- that a line's fault tells
-abbrev pub line_position : LineFault → Position
+-- the line and column of a column's fault
+abbrev pub column_position : ColumnFault → ℕ × ℕ
+column_position f = line_and_column f.position
+
+-- those of a line's fault
+abbrev pub line_position : LineFault → ℕ × ℕ
 line_position (Column f) = column_position f
-line_position (Ends p) = p
-line_position (Unexpected p) = p
-line_position (Unended p) = p
+line_position (Ends p) = line_and_column p
+line_position (Unexpected p) = line_and_column p
+line_position (Unended p) = line_and_column p
 
--- that a text's fault tells
-abbrev pub load_position : LoadFault → Position
+-- those of a text's fault
+abbrev pub load_position : LoadFault → ℕ × ℕ
 load_position (Line f) = line_position f
-load_position (Value p) = p
-load_position (Beyond p) = p
+load_position (Value p) = line_and_column p
+load_position (Beyond p) = line_and_column p
 
 -- 12: a byte cannot stand in its column
 abbrev pub column_refusal : ColumnFault → ℕ

@@ -5,7 +5,7 @@ ghost use Rattle.std.specs.Prelude.{◌≡◌, Some};
 ghost use Rattle.faults.specs.declared.LineFault.TheVariants.{Column};
 ghost use Rattle.faults.specs.declared.LoadFault.TheVariants.{Line};
 ghost use Rattle.faults.specs.Refusals.{column_position, line_position, load_position, column_refusal, line_refusal, load_refusal};
-ghost use Rattle.faults.specs.Reasons.{column_reason, line_reason, load_reason, position_text};
+ghost use Rattle.faults.specs.Reasons.{column_reason, line_reason, load_reason};
 
 use std::fmt;
 
@@ -14,14 +14,6 @@ use std::fmt;
 pub struct Position {
     pub line: u32,
     pub column: u32,
-}
-
-impl fmt::Display for Position {
-    ghost output = { λ at. Some (position_text at) };
-
-    fn fmt<W: fmt::Write>(&self, f: &mut fmt::Formatter<W>) -> fmt::Result {
-        write!(f, "line {}, column {}", self.line, self.column)
-    }
 }
 
 /// A byte that cannot stand in its column.
@@ -90,22 +82,21 @@ impl fmt::Display for LoadFault {
 }
 
 impl ColumnFault {
-    /// Where the byte stands.
-    pub fn position(&self) -> Position
-        ensures told { result ≡ column_position self.now }
+    /// The line and column of the byte, both counted from 1.
+    pub fn position(&self) -> (u32, u32)
+        ensures line_and_column { result ≡ column_position self.now }
     {
-        self.position
+        (self.position.line, self.position.column)
     }
 
-    /// The refusal's number.
-    // A method here and in the types below, and no `From`: its name says which number of a fault it is.
+    /// The number of the refusal, from 10 to 15.
     pub fn refusal(&self) -> u8
         ensures numbered { result ≡ column_refusal self.now }
     {
         12
     }
 
-    /// What is wrong, for a person.
+    /// The reason in words.
     pub fn reason(&self) -> &'static str
         ensures in_words { result.now ≡ column_reason self.now }
     {
@@ -114,17 +105,19 @@ impl ColumnFault {
 }
 
 impl LineFault {
-    /// Where the fault is.
-    pub fn position(&self) -> Position
-        ensures told { result ≡ line_position self.now }
+    /// The line and column of the fault, both counted from 1.
+    pub fn position(&self) -> (u32, u32)
+        ensures line_and_column { result ≡ line_position self.now }
     {
         match self {
             LineFault::Column(fault) => fault.position(),
-            LineFault::Ends(at) | LineFault::Unexpected(at) | LineFault::Unended(at) => *at,
+            LineFault::Ends(at) | LineFault::Unexpected(at) | LineFault::Unended(at) => {
+                (at.line, at.column)
+            }
         }
     }
 
-    /// The refusal's number.
+    /// The number of the refusal, from 10 to 15.
     pub fn refusal(&self) -> u8
         ensures numbered { result ≡ line_refusal self.now }
     {
@@ -136,7 +129,7 @@ impl LineFault {
         }
     }
 
-    /// What is wrong, for a person.
+    /// The reason in words.
     pub fn reason(&self) -> &'static str
         ensures in_words { result.now ≡ line_reason self.now }
     {
@@ -150,17 +143,17 @@ impl LineFault {
 }
 
 impl LoadFault {
-    /// Where the fault is.
-    pub fn position(&self) -> Position
-        ensures told { result ≡ load_position self.now }
+    /// The line and column of the fault, both counted from 1.
+    pub fn position(&self) -> (u32, u32)
+        ensures line_and_column { result ≡ load_position self.now }
     {
         match self {
             LoadFault::Line(fault) => fault.position(),
-            LoadFault::Value(at) | LoadFault::Beyond(at) => *at,
+            LoadFault::Value(at) | LoadFault::Beyond(at) => (at.line, at.column),
         }
     }
 
-    /// The refusal's number.
+    /// The number of the refusal, from 10 to 15.
     pub fn refusal(&self) -> u8
         ensures numbered { result ≡ load_refusal self.now }
     {
@@ -171,7 +164,7 @@ impl LoadFault {
         }
     }
 
-    /// What is wrong, for a person.
+    /// The reason in words.
     pub fn reason(&self) -> &'static str
         ensures in_words { result.now ≡ load_reason self.now }
     {

@@ -68,8 +68,9 @@ struct Why(Refusal);
 
 impl fmt::Display for Why {
     fn fmt<W: fmt::Write>(&self, f: &mut fmt::Formatter<W>) -> fmt::Result {
-        if let Some(at) = self.0.position() {
-            write!(f, "{at}: ")?;
+        if let Refusal::Unreadable(fault) = self.0 {
+            let (line, column) = fault.position();
+            write!(f, "line {line}, column {column}: ")?;
         }
         write!(f, "{}", self.0)
     }

@@ -1,5 +1,5 @@
 -- What is reported of two texts. Assumes nothing.
-use Rattle.std.specs.Prelude.{◌≡◌, ℕ, ◌<◌, ◌≤◌, ◌≢◌, ◌↔◌, List, [], ◌∷◌, ◌++◌, length, drop, slice_index, Option, Some, None}
+use Rattle.std.specs.Prelude.{◌≡◌, ℕ, ◌<◌, ◌≤◌, ◌≢◌, ◌↔◌, List, [], ◌∷◌, ◌++◌, length, drop, slice_index}
 use Rattle.field.specs.FiniteField.{FiniteField}
 use Rattle.series.specs.Tables.{Table}
 use Rattle.series.specs.Comparing.{Alike}
@@ -7,7 +7,6 @@ use Rattle.columns.specs.Lines.{line}
 use Rattle.text.specs.Texts.{text_of}
 use Rattle.text.specs.Readings.{Sized, Refuses}
 use Rattle.faults.specs.declared.LoadFault.{LoadFault}
-use Rattle.faults.specs.declared.Position.{Position}
 use Rattle.book.specs.Refusals.{refusal_number, refusal_position}
 use Rattle.book.specs.Verdicts.{SaysAlike, SaysDifferent, reported}
 use Rattle.book.specs.declared.refusal.Refusal.{Refusal}
@@ -22,14 +21,9 @@ alike_line v = line 81 (v.tried ∷ v.kept ∷ [])
 abbrev pub different_line : Verdict → List ℕ
 different_line v = line 68 (v.tried ∷ v.length ∷ v.first ∷ v.second ∷ reported v)
 
--- a position's line and column; two zeros where there is none
-abbrev pub line_and_column : Option Position → List ℕ
-line_and_column None = 0 ∷ 0 ∷ []
-line_and_column (Some p) = p.line ∷ p.column ∷ []
-
--- R: which text is refused, 0 where it is the two together, the refusal's number, and the line and column that it tells
+-- R: which text is refused (0 for the two together), the refusal's number, and its line and column, 0 and 0 where it has none
 abbrev pub refused_line : ℕ → Refusal → List ℕ
-refused_line which r = line 82 (which ∷ refusal_number r ∷ line_and_column (refusal_position r))
+refused_line which r = line 82 (which ∷ refusal_number r ∷ (refusal_position r).0 ∷ (refusal_position r).1 ∷ [])
 
 module _ {V : Type 0} (K : FiniteField V) where
   -- the text is that of the table, which is within the limits

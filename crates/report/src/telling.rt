@@ -27,12 +27,12 @@ fn put_in_front(out: &mut [u8; LONGEST], first: u8, values: &[u64], letters: &[u
     count
 }
 
-// Writes the line of a refused text, or of the two together: how many bytes it has. The text is a number since the line tells it.
+// Writes the line of a refused text, or of the two together, and returns its length; `text` is 1, 2 or 0.
 fn put_refused(out: &mut [u8; LONGEST], text: u8, refusal: &Refusal) -> usize
     ensures told { AtFront (refused_line text refusal.now) out.old result out.new }
     ensures at_most { result ≤ 387 }
 {
-    let (line, column) = refusal.position().map_or((0, 0), |at| (at.line, at.column));
+    let (line, column) = refusal.position();
     let values = [
         u64::from(text),
         u64::from(refusal.number()),

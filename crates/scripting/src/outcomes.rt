@@ -49,7 +49,10 @@ impl fmt::Display for Shown<Refusal> {
         write!(f, "refused {number}")?;
         match refusal {
             Refusal::LetterOutside { position } => write!(f, " at position {position}")?,
-            Refusal::Unreadable(fault) => write!(f, " at {}", fault.position())?,
+            Refusal::Unreadable(fault) => {
+                let (line, column) = fault.position();
+                write!(f, " at line {line}, column {column}")?
+            }
             _ => {}
         }
         write!(f, ", {refusal}")

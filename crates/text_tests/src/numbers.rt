@@ -13,8 +13,8 @@ fn show(rt: HostRuntime, bytes: &[u8; 11]) -> io::Result<()> {
     match columns(bytes, start) {
         Ok(value) => println!(rt; "number {value}"),
         Err(fault) => {
-            let at = fault.position();
-            println!(rt; "column {} {}", at.line, at.column)
+            let (line, column) = fault.position();
+            println!(rt; "column {line} {column}")
         }
     }
 }

@@ -23,11 +23,11 @@ impl Verdict {
             // `as`: std has no From between usize and u64.
             Ok(shape) => (0, shape.states as u64, shape.letters as u64),
             Err(fault) => {
-                let at = fault.position();
+                let (line, column) = fault.position();
                 (
                     u64::from(fault.refusal()),
-                    u64::from(at.line),
-                    u64::from(at.column),
+                    u64::from(line),
+                    u64::from(column),
                 )
             }
         }

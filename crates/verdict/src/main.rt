@@ -80,8 +80,8 @@ fn tell_refused<F: Field>(rt: &HostRuntime, named: Named<'_>) -> io::Result<bool
         return Ok(false);
     };
     let name = named.name;
-    let at = fault.position();
-    eprintln!(rt; "{name}: {at}: {fault}")?;
+    let (line, column) = fault.position();
+    eprintln!(rt; "{name}: line {line}, column {column}: {fault}")?;
     Ok(true)
 }
 

@@ -65,7 +65,8 @@ impl fmt::Display for Refused {
             LoadFault::Value(_) => "this number is not the one due, or not within its limits",
             fault => fault.reason(),
         };
-        write!(f, "{}: {reason}", self.0.position())
+        let (line, column) = self.0.position();
+        write!(f, "line {line}, column {column}: {reason}")
     }
 }
 
