@@ -13,8 +13,10 @@ use field::Field;
 use rows::table::{Shape, TableRef};
 use text::matrix::heads;
 
-/// How many bytes the longest text of a table has.
+/// The length in bytes of the longest text: that of a table with 16 states and 6 letters.
 pub const LONGEST: usize = 19593;
+
+const _: () = prove!(LONGEST == 41 + 22 * 16 + 6 * 16 * (24 + 11 * 16));
 
 /// Writes a line of the numbers `heads` and then of the elements' codes.
 fn put_codes_line<F: Field>(out: &mut [u8], kind: Kind, heads: &[u64], elements: &[F])
@@ -71,7 +73,7 @@ fn put_body<F: Field>(out: &mut [u8], shape: Shape, elements: &[F])
     put_codes_line::<F>(close_line, Kind::Close, &[], &[]);
 }
 
-/// How many bytes the text of a table of this shape has.
+/// Returns the length in bytes of the text of a table of this shape.
 pub fn text_size(shape: Shape) -> usize
     ensures counted { result ≡ text_size shape.states shape.letters }
     ensures at_most { result ≤ 19593 }
@@ -80,8 +82,7 @@ pub fn text_size(shape: Shape) -> usize
     41 + 22 * n + shape.letters * n * (24 + 11 * n)
 }
 
-/// Writes the text of a table to the front of `output`: how many bytes it has.
-// The output is lent, since the library has no heap; so the count is told.
+/// Writes the text of a table to the front of `output` and returns its length in bytes.
 pub fn write_table<F: Field>(table: TableRef<'_, F>, output: &mut [u8]) -> usize
     requires room { text_size table.shape.states table.shape.letters ≤ length output.old }
     ensures counted { result ≡ text_size table.entry.shape.states table.entry.shape.letters }
