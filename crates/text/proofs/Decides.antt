@@ -7,7 +7,7 @@ use Rattle.series.specs.Tables.{Table}
 use Rattle.rows.specs.Layout.{table_at}
 use Rattle.columns.specs.Lines.{numbers, line}
 use Rattle.reader.specs.Items.{Item, Goes, Stops}
-use Rattle.text.specs.Texts.{Limits, codes, code_items, matrix_line, matrix_items, table_items, body_items, body_of, text_of, text_size}
+use Rattle.text.specs.Texts.{Limits, row_codes, code_items, matrix_line, matrix_items, table_items, body_items, body_of, text_of, text_size}
 use Rattle.text.specs.Readings.{Sized, Refuses, in_first, in_body, past}
 use Rattle.text.specs.Facts.{Decided, ReadBack, WrittenBack}
 use Rattle.faults.specs.declared.LoadFault.{LoadFault}
@@ -33,8 +33,8 @@ module _ {V : Type 0} (K : FiniteField V) where
   codes_below x a zero = tt
   codes_below x a (suc n) = (omega (arith, K.code_below (x a)), codes_below x (a + 1) n)
 
-  codes_go : (n : ℕ) (x : ℕ → V) → Goes (code_items K n) (numbers (codes K n x))
-  codes_go n x = goes_row (K.q - 1) n (codes K n x) (omega (arith, K.q_high)) (length_codes K n x) (codes_below x 0 n)
+  codes_go : (n : ℕ) (x : ℕ → V) → Goes (code_items K n) (numbers (row_codes K n x))
+  codes_go n x = goes_row (K.q - 1) n (row_codes K n x) (omega (arith, K.q_high)) (length_codes K n x) (codes_below x 0 n)
 
   table_goes : (n k : ℕ) → Limits n k → Goes (table_items K) (line 84 (n ∷ k ∷ K.q ∷ []))
   table_goes n k s =

@@ -9,7 +9,7 @@ use Rattle.rows.specs.Layout.{table_size, matrix_offset, end_offset, table_at}
 use Rattle.columns.specs.Lines.{line}
 use Rattle.reader.specs.Items.{ranged, line_items, Stops}
 use Rattle.reader.specs.Steps.{left, Went}
-use Rattle.text.specs.Texts.{codes, matrix_line, matrix_lines, body_of, matrix_items, body_items, code_items}
+use Rattle.text.specs.Texts.{row_codes, matrix_line, matrix_lines, body_of, matrix_items, body_items, code_items}
 use Rattle.text.specs.Rows.{codes_of, row, row_line, row_lines}
 use Rattle.faults.specs.declared.Position.{Position}
 use Rattle.faults.specs.declared.LoadFault.{LoadFault}
@@ -65,7 +65,7 @@ module _ {F V : Type 0} (K : FiniteField V) (value : F → V) where
   code_at (x ∷ xs) zero = refl
   code_at (x ∷ xs) (suc i) = code_at xs i
 
-  codes_row : (xs : List F) (x : ℕ → V) (b n : ℕ) → b + n ≤ length xs → ((i : ℕ) → x i ≡ at K value xs (b + i)) → codes K n x ≡ take n (drop b (codes_of K value xs))
+  codes_row : (xs : List F) (x : ℕ → V) (b n : ℕ) → b + n ≤ length xs → ((i : ℕ) → x i ≡ at K value xs (b + i)) → row_codes K n x ≡ take n (drop b (codes_of K value xs))
   codes_row xs x b n h same =
       let z : b + 0 ≡ b = omega arith in
       map_agree (λ i. K.code (x i)) (λ i. get_or (codes_of K value xs) (b + i) 0) (λ i. ap K.code (same i) ∙ code_at xs (b + i)) (range_with_len 0 n)
@@ -87,7 +87,7 @@ module _ {F V : Type 0} (K : FiniteField V) (value : F → V) where
         let letter : 1 + a ≡ (a * n + i) / n + 1 = omega (arith, div-mul-add a n i u) in
         let number : i + 1 ≡ (a * n + i) % n + 1 = omega (arith, mod-mul-add a n i u) in
         let entry : (j : ℕ) → matrix_offset base n (1 + a) + (i * n + j) ≡ base + n + (a * n + i) * n + j = λ j. omega (arith, at_row) in
-        let there : codes K n (square_at K value xs (matrix_offset base n (1 + a)) n i) ≡ row n (take (k * n * n) (drop (base + n) cs)) (a * n + i) =
+        let there : row_codes K n (square_at K value xs (matrix_offset base n (1 + a)) n i) ≡ row n (take (k * n * n) (drop (base + n) cs)) (a * n + i) =
         codes_row xs _ (base + n + (a * n + i) * n) n (omega (arith, cells, inside)) (λ j. ap (at K value xs) (entry j)) ∙ sym (row_cut n ((a * n + i) * n) (k * n * n) (base + n) cs inside) in
         λ t. line 77 (letter t ∷ number t ∷ there t))
 

@@ -7,7 +7,7 @@ use Rattle.field.proofs.Laws.{code_only}
 use Rattle.field.specs.Rows.{Agree}
 use Rattle.series.specs.Tables.{Table, SameTable}
 use Rattle.columns.specs.Lines.{line, TenDigits}
-use Rattle.text.specs.Texts.{Limits, text_size, codes, matrix_line, matrix_lines, body_of, text_of}
+use Rattle.text.specs.Texts.{Limits, text_size, row_codes, matrix_line, matrix_lines, body_of, text_of}
 use Rattle.text.specs.Readings.{Sized}
 use Rattle.text.specs.Facts.{LengthIs, ToldApart}
 use Rattle.columns.proofs.Lengths.{length_line, length_joined, line_same, joined_parts}
@@ -23,17 +23,17 @@ module _ {V : Type 0} (K : FiniteField V) where
   codes_small_from x a zero = tt
   codes_small_from x a (suc n) = (omega (arith, K.code_below (x a), K.q_high), codes_small_from x (a + 1) n)
 
-  pub codes_few : (n : ℕ) (x : ℕ → V) → TenDigits (codes K n x)
+  pub codes_few : (n : ℕ) (x : ℕ → V) → TenDigits (row_codes K n x)
   codes_few n x = codes_small_from x 0 n
 
   length_from : (x : ℕ → V) (a n : ℕ) → length (map (λ i. K.code (x i)) (range_with_len a n)) ≡ n
   length_from x a zero = refl
   length_from x a (suc n) = ap suc (length_from x (a + 1) n)
 
-  pub length_codes : (n : ℕ) (x : ℕ → V) → length (codes K n x) ≡ n
+  pub length_codes : (n : ℕ) (x : ℕ → V) → length (row_codes K n x) ≡ n
   length_codes n x = length_from x 0 n
 
-  codes_agree : (n : ℕ) (x y : ℕ → V) → codes K n x ≡ codes K n y → Agree n x y
+  codes_agree : (n : ℕ) (x y : ℕ → V) → row_codes K n x ≡ row_codes K n y → Agree n x y
   codes_agree n x y e i h =
       let z : 0 + i ≡ i = omega arith in
       code_only K (x i) (y i) (ap (λ j. K.code (x j)) (sym z) ∙ agree_from (λ j. K.code (x j)) (λ j. K.code (y j)) 0 n e i h ∙ ap (λ j. K.code (y j)) z)
@@ -42,11 +42,11 @@ module _ {V : Type 0} (K : FiniteField V) where
     table_few : TenDigits (T.states ∷ T.letters ∷ K.q ∷ [])
     table_few = (omega (arith, sized.states), (omega (arith, sized.letters), (omega (arith, K.q_high), tt)))
 
-    matrix_few : (a i : ℕ) → a ≤ 6 → i < 16 → TenDigits (a ∷ (i + 1) ∷ codes K T.states (T.step a i))
+    matrix_few : (a i : ℕ) → a ≤ 6 → i < 16 → TenDigits (a ∷ (i + 1) ∷ row_codes K T.states (T.step a i))
     matrix_few a i h l = (omega arith, (omega arith, codes_few T.states (T.step a i)))
 
     length_matrix_line : (a i : ℕ) → a ≤ 6 → i < 16 → length (matrix_line K T a i) ≡ 24 + 11 * T.states
-    length_matrix_line a i h l = length_line 77 (a ∷ (i + 1) ∷ codes K T.states (T.step a i)) (matrix_few a i h l) ∙ omega (arith, length_codes T.states (T.step a i))
+    length_matrix_line a i h l = length_line 77 (a ∷ (i + 1) ∷ row_codes K T.states (T.step a i)) (matrix_few a i h l) ∙ omega (arith, length_codes T.states (T.step a i))
 
     length_matrix : (a : ℕ) → a ≤ 6 → length (flat_map (matrix_line K T a) (range_with_len 0 T.states)) ≡ T.states * (24 + 11 * T.states)
     length_matrix a h = length_joined (matrix_line K T a) (24 + 11 * T.states) 0 T.states (λ i l u. length_matrix_line a i h (omega (arith, sized.states)))
@@ -58,16 +58,16 @@ module _ {V : Type 0} (K : FiniteField V) where
     unfolding text_of body_of
     length_text =
         let n = T.states in
-        let end = line 69 (codes K n T.end) ++ line 90 [] in
+        let end = line 69 (row_codes K n T.end) ++ line 90 [] in
         omega (
           arith,
-          length-append (line 84 (n ∷ T.letters ∷ K.q ∷ [])) (line 83 (codes K n T.start) ++ (matrix_lines K T ++ end)),
-          length-append (line 83 (codes K n T.start)) (matrix_lines K T ++ end),
+          length-append (line 84 (n ∷ T.letters ∷ K.q ∷ [])) (line 83 (row_codes K n T.start) ++ (matrix_lines K T ++ end)),
+          length-append (line 83 (row_codes K n T.start)) (matrix_lines K T ++ end),
           length-append (matrix_lines K T) end,
-          length-append (line 69 (codes K n T.end)) (line 90 []),
+          length-append (line 69 (row_codes K n T.end)) (line 90 []),
           length_line 84 (n ∷ T.letters ∷ K.q ∷ []) table_few,
-          length_line 83 (codes K n T.start) (codes_few n T.start),
-          length_line 69 (codes K n T.end) (codes_few n T.end),
+          length_line 83 (row_codes K n T.start) (codes_few n T.start),
+          length_line 69 (row_codes K n T.end) (codes_few n T.end),
           length_codes n T.start,
           length_codes n T.end,
           length_matrices,
@@ -91,9 +91,9 @@ module _ {V : Type 0} (K : FiniteField V) where
     unfolding resized body_of
     body_told e =
         let n = S.states in
-        let first = line_same 83 (codes K n S.start) (codes K n T.start) _ _ (length_codes n S.start ∙ sym (length_codes n T.start)) (codes_few n S.start) (codes_few n T.start) (e ∙ body_resized) in
+        let first = line_same 83 (row_codes K n S.start) (row_codes K n T.start) _ _ (length_codes n S.start ∙ sym (length_codes n T.start)) (codes_few n S.start) (codes_few n T.start) (e ∙ body_resized) in
         let middle = joined_parts (λ a. flat_map (matrix_line K S a) (range_with_len 0 n)) (λ a. flat_map (matrix_line K resized a) (range_with_len 0 n)) 1 S.letters _ _ (λ a l u. length_matrix S hs a (omega (arith, hs.letters)) ∙ sym (length_matrix resized hs a (omega (arith, hs.letters)))) first.1 in
-        let last = line_same 69 (codes K n S.end) (codes K n T.end) _ _ (length_codes n S.end ∙ sym (length_codes n T.end)) (codes_few n S.end) (codes_few n T.end) middle.1 in
+        let last = line_same 69 (row_codes K n S.end) (row_codes K n T.end) _ _ (length_codes n S.end ∙ sym (length_codes n T.end)) (codes_few n S.end) (codes_few n T.end) middle.1 in
         record {
           states = nn;
           letters = kk;
@@ -101,7 +101,7 @@ module _ {V : Type 0} (K : FiniteField V) where
           step = λ a some l i h.
               let few : a ≤ 6 = omega (arith, hs.letters) in
               let rows = joined_parts (matrix_line K S a) (matrix_line K resized a) 0 n [] [] (λ j u v. length_matrix_line S hs a j few (omega (arith, hs.states)) ∙ sym (length_matrix_line resized hs a j few (omega (arith, hs.states)))) (ap (λ x. x ++ []) (middle.0 a some (omega arith))) in
-              let here = line_same 77 (a ∷ (i + 1) ∷ codes K n (S.step a i)) (a ∷ (i + 1) ∷ codes K n (T.step a i)) [] [] (ap (λ m. suc (suc m)) (length_codes n (S.step a i) ∙ sym (length_codes n (T.step a i)))) (matrix_few S hs a i few (omega (arith, hs.states))) (matrix_few resized hs a i few (omega (arith, hs.states))) (ap (λ x. x ++ []) (rows.0 i (omega arith) (omega arith))) in
+              let here = line_same 77 (a ∷ (i + 1) ∷ row_codes K n (S.step a i)) (a ∷ (i + 1) ∷ row_codes K n (T.step a i)) [] [] (ap (λ m. suc (suc m)) (length_codes n (S.step a i) ∙ sym (length_codes n (T.step a i)))) (matrix_few S hs a i few (omega (arith, hs.states))) (matrix_few resized hs a i few (omega (arith, hs.states))) (ap (λ x. x ++ []) (rows.0 i (omega arith) (omega arith))) in
               codes_agree n (S.step a i) (T.step a i) (ap (drop 2) here.0);
           end = codes_agree n S.end T.end last.0;
         }

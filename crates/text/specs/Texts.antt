@@ -19,12 +19,12 @@ text_size n k = 41 + 22 * n + k * n * (24 + 11 * n)
 
 module _ {V : Type 0} (K : FiniteField V) where
   -- the codes of a row's first n entries
-  abbrev pub codes : ℕ → (ℕ → V) → List ℕ
-  codes n x = map (λ i. K.code (x i)) (range_with_len 0 n)
+  abbrev pub row_codes : ℕ → (ℕ → V) → List ℕ
+  row_codes n x = map (λ i. K.code (x i)) (range_with_len 0 n)
 
   -- the line of row i, from 0, of the letter a's matrix
   abbrev pub matrix_line : Table V → ℕ → ℕ → List ℕ
-  matrix_line T a i = line (letter kind.Matrix) (a ∷ (i + 1) ∷ codes T.states (T.step a i))
+  matrix_line T a i = line (letter kind.Matrix) (a ∷ (i + 1) ∷ row_codes T.states (T.step a i))
 
   -- these lines for each letter and each row
   abbrev pub matrix_lines : Table V → List ℕ
@@ -33,9 +33,9 @@ module _ {V : Type 0} (K : FiniteField V) where
   -- the lines after the first: the start row, the matrices, the end column, and a last line
   unfoldable pub body_of : Table V → List ℕ
   body_of T =
-      line (letter kind.Start) (codes T.states T.start)
+      line (letter kind.Start) (row_codes T.states T.start)
       ++ (matrix_lines T
-      ++ (line (letter kind.End) (codes T.states T.end)
+      ++ (line (letter kind.End) (row_codes T.states T.end)
       ++ line (letter kind.Close) []))
 
   -- the text of a table: a line of its sizes and q, and the others
