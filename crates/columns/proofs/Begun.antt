@@ -4,7 +4,10 @@ use native.Mathlib.Nat.{pow-zero, div-div-eq-div-mul, pow-succ', pow-le-pow_righ
 use Rattle.std.proofs.lemmas.List.{length_push, replicate_more, take-append-le, take_all, take_at, get_or_at, take_more, length-take-le, drop-set}
 use Rattle.std.proofs.lemmas.Fmt.{decimal_digit, decimal_step}
 use Rattle.std.proofs.lemmas.Bool.{cases_eq, cases_lt, le-leb, lt-leb, ne_eqb}
-use Rattle.columns.specs.Numbers.{number, Begins, Broken, Holds}
+use Rattle.columns.specs.Numbers.{number, Begins, Broken}
+use Rattle.columns.specs.Prefixes.{value_of, Extends, Holds}
+use Rattle.columns.specs.declared.column.Prefix.{Prefix}
+use Rattle.columns.specs.declared.column.Prefix.TheVariants.{Spaces, Digits}
 
 -- the last of the first i columns, which hold v so far: blank until a digit comes, but for the eleventh
 unfoldable pub cell : ℕ → ℕ → ℕ
@@ -157,6 +160,11 @@ begins_to i p (w, small, e) n h = (
   sym e ∙ ap (λ m. take m (number w)) n ∙ front_is i (11 - i) (omega arith) w small,
 )
 
+-- where the prefix may end: digits are no zero before the last column
+abbrev pub Placed : ℕ → Prefix → Type 0
+Placed i Spaces = i ≤ 10
+Placed i (Digits v) = (0 < v) ⊎ (10 < i)
+
 -- the first i bytes hold v so far
 pub record Sofar (bs : List ℕ) (i v : ℕ) : Type 0 where
   pub front : take i bs ≡ begun i v
@@ -212,13 +220,45 @@ module _ (bs : List ℕ) (i v : ℕ) (sofar : Sofar bs i v) (on : i < length bs)
         (cell_cases (suc i) w);
   }
 
-pub held : (bs : List ℕ) (i v : ℕ) → Sofar bs i v → i ≡ length bs → i ≤ 11 → Holds bs v
-held bs i v sofar e h =
+-- the bytes up to column i hold the prefix
+pub record Reached (bs : List ℕ) (i : ℕ) (p : Prefix) : Type 0 where
+  pub sofar : Sofar bs i (value_of p)
+  pub placed : Placed i p
+
+pub reached_none : (bs : List ℕ) → Reached bs 0 Spaces
+reached_none bs = record { sofar = sofar_none bs; placed = omega arith }
+
+-- one byte more
+pub reached_more : (bs : List ℕ) (i : ℕ) (p q : Prefix) → Reached bs i p → i < length bs → i < 11 → Extends i p (get_or bs i 0) q → Reached bs (i + 1) q
+reached_more bs i Spaces q r on within (inl (b, l, e)) = subst (Reached bs (i + 1)) (sym e) (record { sofar = space_more bs i 0 r.sofar on within refl l b; placed = omega arith })
+reached_more bs i Spaces q r on within (inr (d, h, b, some, high, e)) =
+    let z : 0 * 10 + d ≡ d = omega arith in
+    subst (Reached bs (i + 1)) (sym e) (record {
+      sofar = subst (Sofar bs (i + 1)) z (digit_more bs i 0 r.sofar on within d h b some (⊎_elim (λ k. inl (omega arith)) (λ k. inr (omega arith)) high));
+      placed = ⊎_elim (λ k. inl k) (λ k. inr (omega arith)) high;
+    })
+reached_more bs i (Digits v) q r on within (d, h, b, e) =
+    let some : 0 < v = ⊎_elim (λ k. k) (λ k. absurd (omega arith)) r.placed in
+    let more : 0 < v * 10 + d = omega arith in
+    subst (Reached bs (i + 1)) (sym e) (record { sofar = digit_more bs i v r.sofar on within d h b (past_first bs i v r.sofar on within some) (inl more); placed = inl more })
+
+-- a byte that extends no prefix
+pub reached_broken : (bs : List ℕ) (i : ℕ) (p : Prefix) → Reached bs i p → i < length bs → i < 11 → ((q : Prefix) → Extends i p (get_or bs i 0) q → ⊥) → Broken bs i
+reached_broken bs i Spaces r on within none = broken bs i 0 r.sofar on within
+    (λ b z l. none Spaces (inl (b, l, refl)))
+    (λ d h b some high. none (Digits d) (inr (d, h, b, some, ⊎_elim (λ k. inl (omega arith)) (λ k. inr (omega arith)) high, refl)))
+reached_broken bs i (Digits v) r on within none = broken bs i v r.sofar on within
+    (λ b z l. ⊎_elim (λ k. omega arith) (λ k. omega arith) r.placed)
+    (λ d h b some high. none (Digits (v * 10 + d)) (d, h, b, refl))
+
+pub reached_held : (bs : List ℕ) (i : ℕ) (p : Prefix) → Reached bs i p → i ≡ length bs → i ≤ 11 → Holds bs p
+reached_held bs i p r e h =
+    let sofar = r.sofar in
+    let v = value_of p in
     let all : bs ≡ begun i v = sym (take_all i bs (omega arith)) ∙ sofar.front in
     record {
-      small = sofar.small;
       begins = subst Begins (sym all) (begins_from i v h sofar.low);
-      whole = λ n. all ∙ ap (λ m. begun m v) (e ∙ n) ∙ sym (number_begun v sofar.small);
+      whole = λ n. (sofar.small, all ∙ ap (λ m. begun m v) (e ∙ n) ∙ sym (number_begun v sofar.small));
     }
 
 -- one more column, from the last to the first

@@ -1,3 +1,4 @@
 pub mod Numbers
+pub mod Prefixes
 pub mod Lines
 pub mod Facts

@@ -1,9 +1,15 @@
 -- A number in eleven columns, and where a reader of one stops. Assumes nothing.
 use Rattle.std.specs.Prelude.{◌≡◌, ℕ, ◌+◌, ◌-◌, ◌^◌, ◌<◌, List, ◌++◌, length, take, replicate, decimal}
+use Rattle.faults.specs.declared.Position.{Position}
+use Rattle.faults.specs.declared.ColumnFault.{ColumnFault}
 
 -- spaces, then the digits, right-justified
 unfoldable pub number : ℕ → List ℕ
 number v = replicate (11 - length (decimal v)) 32 ++ decimal v
+
+-- the bytes are the columns of the number v, of at most ten digits
+abbrev pub IsNumber : List ℕ → ℕ → Type 0
+IsNumber bs v = (v < 10 ^ 10) × (bs ≡ number v)
 
 -- the bytes are the first columns of a legal number
 abbrev pub Begins : List ℕ → Type 0
@@ -15,8 +21,6 @@ pub record Broken (bs : List ℕ) (c : ℕ) : Type 0 where
   pub before : Begins (take c bs)
   pub here : Begins (take (c + 1) bs) → ⊥
 
--- what the bytes, at most eleven, hold: they begin a legal number, and eleven are the number itself
-pub record Holds (bs : List ℕ) (v : ℕ) : Type 0 where
-  pub small : v < 10 ^ 10
-  pub begins : Begins bs
-  pub whole : length bs ≡ 11 → bs ≡ number v
+-- the fault has the position of the first broken column; the bytes' first column stands at `start`
+abbrev pub FirstBroken : Position → List ℕ → ColumnFault → Type 0
+FirstBroken start bs f = (c : ℕ) × (f ≡ record { position = record { line = start.line; column = start.column + c } }) × Broken bs c

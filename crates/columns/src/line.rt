@@ -1,4 +1,4 @@
-//! The kinds of lines, which may come, and how one is written.
+//! The kinds of lines, the order in which they come, and how a line is written.
 ghost use Rattle.std.specs.Prelude.{◌≡◌, MatchOption, MatchResult, ◌≢◌, ℕ, List, ◌+◌, ◌*◌, length};
 ghost use Rattle.std.specs.Iterator.{IsFinite};
 ghost use Rattle.columns.specs.Lines.{letter as letter_of, due_letter, row_due, next, line as line_of, Gives, TenDigits};
@@ -19,8 +19,7 @@ pub enum Kind {
 #[derive(Clone, Copy, Debug, PartialEq, Eq)]
 pub struct UnknownKind;
 
-/// The line that is due: of a kind, or none after the last.
-// No `Option<Kind>`, which is no plainer: `turn` would answer one within another, and its match would have to name both `None`s.
+/// The line that is due: one of a kind, or none after the last line.
 #[derive(Clone, Copy, Debug, PartialEq, Eq)]
 pub enum Due {
     Table,
@@ -66,15 +65,15 @@ impl From<Kind> for u8 {
     }
 }
 
-/// The line due after a start or matrix line that `rows` matrix lines follow.
+// Returns the line due after a start or matrix line that `rows` matrix lines follow.
 fn after_row(rows: usize) -> Due
     ensures row_or_end { result ≡ row_due rows }
 {
     if rows > 0 { Due::Matrix } else { Due::End }
 }
 
-/// Whether a line of this kind may come where `due` is due: the line due after it, or nothing. `rows` counts the matrix
-/// lines that follow it.
+/// Returns the line due after a line of this kind, or `None` where `due` is another one. `rows` counts the matrix lines
+/// that follow it.
 pub fn turn(due: Due, kind: Kind, rows: usize) -> Option<Due>
     ensures due_comes { MatchOption result (letter_of kind ≢ due_letter due) (λ then. (letter_of kind ≡ due_letter due) × (then ≡ next rows due)) }
 {
@@ -88,8 +87,7 @@ pub fn turn(due: Due, kind: Kind, rows: usize) -> Option<Due>
     }
 }
 
-/// Writes a line: its first byte, the values in their columns, and byte 10.
-// At most ten digits, told by a clause here and above: numbers come from iterators, whose items a type would convert one by one.
+/// Writes a line: its first byte, the values in their columns, and a newline.
 pub fn put_line<I: Iterator<Item = u64> + Drop>(out: &mut [u8], first: u8, values: I)
     requires can { I.can_next values }
     requires ends { IsFinite (I.remaining values) }

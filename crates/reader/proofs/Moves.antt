@@ -8,7 +8,7 @@ use Rattle.std.specs.Option.{ok_or, MatchOption}
 use Rattle.std.specs.Result.{result_or, MatchResult, IfErr, IsErrAnd}
 use Rattle.std.proofs.lemmas.Result.{err_from_is_err_and}
 use Rattle.std.proofs.lemmas.List.{length-take, take-take}
-use Rattle.columns.specs.Numbers.{Begins, Broken}
+use Rattle.columns.specs.Numbers.{Begins, FirstBroken}
 use Rattle.columns.specs.Lines.{letter, due_letter}
 use Rattle.reader.specs.Items.{Item, first, ranged, close, width, Opens, along, named, Halts}
 use Rattle.faults.specs.declared.Position.{Position}
@@ -19,11 +19,7 @@ use Rattle.columns.specs.declared.line.Due.TheVariants.{Table, Start, Matrix, En
 use Rattle.faults.specs.declared.ColumnFault.{ColumnFault}
 use Rattle.faults.specs.declared.LineFault.TheVariants.{Column, Unexpected}
 
--- what holds where a `?` returns
-pub exits : {T E : Type 0} (r : Result T E) (e : E) (P : T → Type 0) (Q : E → Type 0) → IsErrAnd r (λ y. y ≡ e) → Q e → MatchResult r P Q
-exits r e P Q gives q = let p = err_from_is_err_and r gives in rw (p.1, p.2) q
-
--- the same of a clause on `Err` alone
+-- what holds of the error where a `?` returns
 pub errs : {T E : Type 0} (r : Result T E) (e : E) (Q : E → Type 0) → IsErrAnd r (λ y. y ≡ e) → Q e → IfErr r Q
 errs r e Q gives q = let p = err_from_is_err_and r gives in rw (p.1, p.2) q
 
@@ -72,21 +68,19 @@ no_kind b small none End e = none kind.End (sym e)
 no_kind b small none Close e = none kind.Close (sym e)
 no_kind b small none Nothing e = omega arith
 
--- the first m bytes that are left
-module _ (rest : List ℕ) (m : ℕ) (p : Position) (low high : ℕ) (fits : m ≤ length rest) where
-  part_long : length (take m rest) ≡ m
-  part_long = simp length-take (omega arith)
-
-  pub number_broken : m ≤ 11 → (fault : ColumnFault) → (c : ℕ) × (fault ≡ record { position = along p c }) × Broken (take m rest) c → Halts (ranged low high) p rest (Column fault)
-  number_broken most fault (c, is, b) =
-      let in-part : c < m = omega (arith, b.reached, part_long) in
-      inr (
-        c,
-        record {
-          inside = omega arith;
-          reached = omega arith;
-          before = subst Begins (take-take c m rest (omega arith)) b.before;
-          here = λ o. b.here (subst Begins (sym (take-take (c + 1) m rest (omega arith))) o);
-        },
-        ap Column is,
-      )
+-- the eleven bytes that are left first are no number
+pub number_broken : (columns rest : List ℕ) (p : Position) (low high : ℕ) (fault : ColumnFault) → columns ≡ take 11 rest → FirstBroken p columns fault → Halts (ranged low high) p rest (Column fault)
+number_broken columns rest p low high fault cut (c, is, b) =
+    let short : length columns ≤ 11 = omega (arith, ap length cut, length-take 11 rest) in
+    let fits : length columns ≤ length rest = omega (arith, ap length cut, length-take 11 rest) in
+    let on : c < length columns = b.reached in
+    inr (
+      c,
+      record {
+        inside = omega arith;
+        reached = omega arith;
+        before = subst Begins (ap (take c) cut ∙ take-take c 11 rest (omega arith)) b.before;
+        here = λ o. b.here (subst Begins (sym (ap (take (c + 1)) cut ∙ take-take (c + 1) 11 rest (omega arith))) o);
+      },
+      ap Column is,
+    )

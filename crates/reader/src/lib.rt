@@ -1,28 +1,28 @@
 //! A text read in place, item by item: what is due, and where a reader stops.
 #![tactic(auto)]
 
-ghost use Rattle.std.specs.Prelude.{◌≡◌, ℕ, ◌-◌, ◌^◌, ◌<◌, ◌≤◌, [], ◌∷◌, length, MatchResult};
+ghost use Rattle.std.specs.Prelude.{◌≡◌, ℕ, ◌-◌, ◌^◌, ◌<◌, ◌≤◌, [], ◌∷◌, length, OnOk, IfOk, OnErr, IfErr};
 ghost use Rattle.columns.specs.Numbers.{number};
 ghost use Rattle.columns.specs.Lines.{due_letter, next};
 ghost use Rattle.reader.specs.Items.{first, close, ranged, along, after, Halts, Stopped};
 ghost use Rattle.reader.specs.Steps.{left, Starts, Able, Went};
 ghost use Rattle.faults.specs.declared.LoadFault.TheVariants.{Beyond};
 
-use columns::column::columns;
+use columns::column::{check_partial_number, read_number};
 use columns::line::{Due, Kind, turn};
 use faults::{LineFault, LoadFault, Position};
 use field::Field;
 
-/// What is left of a text; `position` is the line and column of its first byte, which is due next.
+/// The rest of a text; `position` is the line and column of its first byte.
 // `Able` is no ghost field: a reader of any text can be made, and a long enough text takes its counts past any limit.
-#[derive(Drop)]
+#[derive(Clone, Copy)]
 pub struct Reader<'a> {
     rest: &'a [u8],
     position: Position,
 }
 
 impl<'a> Reader<'a> {
-    /// A reader at the start of the text.
+    /// Returns a reader at the start of the text.
     pub fn new(text: &'a [u8]) -> Reader<'a>
         ensures at_the_start { Starts result text.now }
     {
@@ -34,9 +34,10 @@ impl<'a> Reader<'a> {
 }
 
 impl Reader<'_> {
-    /// Asks that the text ends here.
+    /// Checks that the text ends here.
     pub fn finish(&self) -> Result<(), LoadFault>
-        ensures over_or_beyond { MatchResult result (λ _. left self.now ≡ []) (λ f. (0 < length (left self.now)) × (f ≡ Beyond self.now.position)) }
+        ensures over { OnOk result (left self.now ≡ []) }
+        ensures beyond { IfErr result (λ f. (0 < length (left self.now)) × (f ≡ Beyond self.now.position)) }
     {
         if !self.rest.is_empty() {
             return Err(LoadFault::Beyond(self.position));
@@ -44,10 +45,12 @@ impl Reader<'_> {
         Ok(())
     }
 
-    /// Goes over the first byte of the line due, which `rows` matrix lines follow: the line due after it.
+    /// Reads the first byte of the line due, which `rows` matrix lines follow, and returns the line due after it.
     pub fn head(&mut self, due: Due, rows: usize) -> Result<Due, LineFault>
         requires able { Able self.old }
-        ensures due_or_halted { MatchResult result (λ then. Went self.old self.new (due_letter due ∷ []) (along self.old.position 1) × (then ≡ next rows due)) (λ f. Halts (first (due_letter due)) self.old.position (left self.old) f) }
+        ensures next_due { IfOk result (λ then. Went self.old self.new (due_letter due ∷ []) (along self.old.position 1) × (then ≡ next rows due)) }
+        ensures halts { IfErr result (Halts (first (due_letter due)) self.old.position (left self.old)) }
+        ensures unchanged { OnErr result (self.new ≡ self.old) }
     {
         let (letter, rest) = self
             .rest
@@ -61,10 +64,12 @@ impl Reader<'_> {
         Ok(then)
     }
 
-    /// Goes over a line's end.
+    /// Reads the end of a line.
     pub fn newline(&mut self) -> Result<(), LineFault>
         requires able { Able self.old }
-        ensures next_line_or_halted { MatchResult result (λ _. Went self.old self.new (10 ∷ []) (after close self.old.position)) (λ f. Halts close self.old.position (left self.old) f) }
+        ensures next_line { OnOk result (Went self.old self.new (10 ∷ []) (after close self.old.position)) }
+        ensures halts { IfErr result (Halts close self.old.position (left self.old)) }
+        ensures unchanged { OnErr result (self.new ≡ self.old) }
     {
         match self.rest {
             [] => Err(LineFault::Ends(self.position)), // a newline is due
@@ -80,47 +85,55 @@ impl Reader<'_> {
         }
     }
 
-    /// Goes over a number.
+    /// Reads a number.
     pub fn number(&mut self) -> Result<u64, LineFault>
         requires able { Able self.old }
-        ensures number_or_halted { MatchResult result (λ v. (v < 10 ^ 10) × Went self.old self.new (number v) (along self.old.position 11)) (λ f. (low high : ℕ) → Halts (ranged low high) self.old.position (left self.old) f) }
+        ensures number { IfOk result (λ v. (v < 10 ^ 10) × Went self.old self.new (number v) (along self.old.position 11)) }
+        ensures halts { IfErr result (λ f. (low high : ℕ) → Halts (ranged low high) self.old.position (left self.old) f) }
+        ensures unchanged { OnErr result (self.new ≡ self.old) }
     {
-        let width = self.rest.len().min(11);
-        let (front, rest) = self.rest.split_at(width);
-        let value = columns(front, self.position)?;
-        // `as`: std has no From from usize to u32, and `width` is at most 11
-        let after = Position {
-            column: self.position.column + width as u32,
-            ..self.position
+        let Some((columns, rest)) = self.rest.split_first_chunk::<11>() else {
+            check_partial_number(self.rest, self.position)?;
+            // `as`: std has no From from usize to u32, and fewer than 11 bytes are left
+            let column = self.position.column + self.rest.len() as u32;
+            return Err(LineFault::Ends(Position {
+                column,
+                ..self.position
+            }));
         };
-        if width < 11 {
-            return Err(LineFault::Ends(after));
-        }
+        let value = read_number(columns, self.position)?;
         self.rest = rest;
-        self.position = after;
+        self.position.column += 11;
         Ok(value)
     }
 
-    /// Goes over a number from `low` to `high`.
+    /// Reads a number from `low` to `high`.
     pub fn within(&mut self, low: u64, high: u64) -> Result<u64, LoadFault>
         requires able { Able self.old }
-        ensures value_or_stopped { MatchResult result (λ v. (v < 10 ^ 10) × (low ≤ v) × (v ≤ high) × Went self.old self.new (number v) (along self.old.position 11)) (λ f. Stopped (ranged low high) self.old.position (left self.old) f) }
+        ensures value { IfOk result (λ v. (v < 10 ^ 10) × (low ≤ v) × (v ≤ high) × Went self.old self.new (number v) (along self.old.position 11)) }
+        ensures stops { IfErr result (Stopped (ranged low high) self.old.position (left self.old)) }
+        ensures unchanged { OnErr result (self.new ≡ self.old) }
     {
-        let position = self.position;
-        let found = self.number()?;
+        let mut after = *self;
+        let found = after.number()?;
         if !(low..=high).contains(&found) {
-            return Err(LoadFault::Value(position));
+            return Err(LoadFault::Value(self.position));
         }
+        *self = after;
         Ok(found)
     }
 
-    /// Goes over a code: an element of it.
+    /// Reads a code and returns its element.
     pub fn element<F: Field>(&mut self) -> Result<F, LoadFault>
         requires able { Able self.old }
-        ensures element_or_stopped { MatchResult result (λ x. Went self.old self.new (number (F.field.code (F.value x))) (along self.old.position 11)) (λ f. Stopped (ranged 0 (F.field.q - 1)) self.old.position (left self.old) f) }
+        ensures element { IfOk result (λ x. Went self.old self.new (number (F.field.code (F.value x))) (along self.old.position 11)) }
+        ensures stops { IfErr result (Stopped (ranged 0 (F.field.q - 1)) self.old.position (left self.old)) }
+        ensures unchanged { OnErr result (self.new ≡ self.old) }
     {
-        let first = self.position;
-        let code = self.number()?;
-        F::from_code(code).ok_or(LoadFault::Value(first))
+        let mut after = *self;
+        let code = after.number()?;
+        let element = F::from_code(code).ok_or(LoadFault::Value(self.position))?;
+        *self = after;
+        Ok(element)
     }
 }

@@ -1,5 +1,5 @@
 //! The columns of single numbers.
-use columns::column::{columns, put_number};
+use columns::column::{put_number, read_number};
 use faults::Position;
 use std::io;
 
@@ -10,7 +10,7 @@ fn show(rt: HostRuntime, bytes: &[u8; 11]) -> io::Result<()> {
         line: 7,
         column: 13,
     };
-    match columns(bytes, start) {
+    match read_number(bytes, start) {
         Ok(value) => println!(rt; "number {value}"),
         Err(fault) => {
             let (line, column) = fault.position();

@@ -1,9 +1,7 @@
-use Rattle.std.proofs.Common.{subst, arith}
-use Rattle.columns.specs.Numbers.{Broken}
-use Rattle.reader.proofs.Moves.{exits, number_broken}
+use Rattle.std.proofs.lemmas.Option.{MatchOption-at_some}
+use Rattle.reader.proofs.Moves.{errs, number_broken}
 use Rattle.reader.proofs.Reader.number.Goals as goal
 
-pub returns-in_err-value : goal.returns-in_err-value
-returns-in_err-value c =
-    let broken = c.in_err-value.ensures.held_or_first_broken in
-    record { number_or_halted = exits _ _ _ _ c.from_residual.ensures.1 (λ low high. number_broken _ _ _ low high (omega (arith, c.min-width.ensures)) (omega (arith, c.min-width.ensures)) _ (broken.0, broken.1, subst (λ l. Broken l broken.0) c.split_at.ensures.front broken.2)) }
+pub returns-in_err-value-clause-halts : goal.returns-in_err-value-clause-halts
+returns-in_err-value-clause-halts c =
+    errs _ _ _ c.from_residual-in_err-value.ensures.1 (λ low high. number_broken _ _ _ low high _ c.in-Some.ensures.cases.0 c.in_err-value.ensures.first_broken)

@@ -95,7 +95,7 @@ returns-in_err-head-clause-stops g c =
     (past_start g at.In_ok-row_due _ _
     (past_rows g at.In_ok-end_due _ _
     (past_end g at.In_ok-close_due _ _
-    (first_stops (due_letter c.in_ok-close_due.close_due) 90 _ _ _ _ (closing g at.In_ok-close_due) (stops_here _ _ _ _ _ c.in_err-head.ensures.due_or_halted))))))
+    (first_stops (due_letter c.in_ok-close_due.close_due) 90 _ _ _ _ (closing g at.In_ok-close_due) (stops_here _ _ _ _ _ c.in_err-head.ensures.halts))))))
 
 pub returns-in_err-newline-clause-stops : goal.returns-in_err-newline-clause-stops
 returns-in_err-newline-clause-stops g c =
@@ -106,7 +106,7 @@ returns-in_err-newline-clause-stops g c =
     (past_rows g at.In_ok-end_due _ _
     (past_end g at.In_ok-close_due _ _
     (first_stops (due_letter c.in_ok-close_due.close_due) 90 _ _ _ _ (closing g at.In_ok-close_due)
-    (head_stops _ _ c.codes_line-2.new.reader c.head.new.self _ c.in_ok-head.ensures.due_or_halted.0 (stops_here _ _ _ _ _ c.in_err-newline.ensures.next_line_or_halted)))))))
+    (head_stops _ _ c.codes_line-2.new.reader c.head.new.self _ c.in_ok-head.ensures.next_due.0 (stops_here _ _ _ _ _ c.in_err-newline.ensures.halts)))))))
 
 pub returns : goal.returns
 returns g c =
@@ -126,6 +126,6 @@ returns g c =
           (went_first _ _ (due_letter c.args.due) 83 (codes_of K value start) _ (ap due_letter c.requires.start_due) c.in_ok-row_due.ensures.line.0)
           c.in_ok-end_due.ensures.lines.0
           (went_first _ _ (due_letter c.in_ok-end_due.end_due) 69 (codes_of K value end) _ (ap due_letter c.in_ok-end_due.ensures.lines.1) c.in_ok-close_due.ensures.line.0)
-          (went_byte _ _ (due_letter c.in_ok-close_due.close_due) 90 _ (closing g at.In_ok-close_due) c.in_ok-head.ensures.due_or_halted.0)
-          c.in_ok-newline.ensures.next_line_or_halted);
+          (went_byte _ _ (due_letter c.in_ok-close_due.close_due) 90 _ (closing g at.In_ok-close_due) c.in_ok-head.ensures.next_due.0)
+          c.in_ok-newline.ensures.next_line);
     }
