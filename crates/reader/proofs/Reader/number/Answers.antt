@@ -1,4 +1,3 @@
-use Rattle.std.proofs.lemmas.Option.{MatchOption-at_some}
 use Rattle.reader.proofs.Moves.{errs, number_broken}
 use Rattle.reader.proofs.Reader.number.Goals as goal
 
