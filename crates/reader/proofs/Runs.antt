@@ -6,7 +6,8 @@ use Rattle.std.proofs.slice.Lists.{all_by_recursion_push}
 use Rattle.columns.specs.Numbers.{number}
 use Rattle.columns.specs.Lines.{numbers, TenDigits}
 use Rattle.reader.specs.Items.{Item, first, ranged, close, along, after, exact_items, Passes, Goes, Misfits, Stopped, Stops}
-use Rattle.reader.specs.Steps.{left, Went}
+use Rattle.reader.specs.Steps.{left, Went, Expects, SameLine}
+use Rattle.columns.specs.declared.line.Due.{Due}
 use Rattle.faults.specs.declared.Position.{Position}
 use Rattle.faults.specs.declared.LoadFault.{LoadFault}
 use Rattle.reader.specs.declared.Reader.{Reader}
@@ -34,6 +35,10 @@ along_along p m n k e = λ i. record { line = p.line; column = (let w : p.column
 -- the place moves along with the reader
 pub went_along : (r s : Reader) (a : List ℕ) (p : Position) (m n k : ℕ) → m + n ≡ k → Went r s a (along (along p m) n) → Went r s a (along p k)
 went_along r s a p m n k e w = subst (Went r s a) (along_along p m n k e) w
+
+-- the same line stays due
+pub expects_on : (s t : Reader) (line : Due) (rows : ℕ) → Expects s line rows → SameLine s t → Expects t line rows
+expects_on s t line rows e same = record { due = same.due ∙ e.due; rows = same.rows ∙ e.rows }
 
 -- the first i of the codes are read
 pub record Rowed (r s : Reader) (codes : List ℕ) (i high : ℕ) : Type 0 where

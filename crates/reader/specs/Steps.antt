@@ -1,5 +1,8 @@
--- What a step of the reader goes over. Assumes nothing.
-use Rattle.std.specs.Prelude.{◌≡◌, ℕ, ◌<◌, List, ◌++◌}
+-- What a step of the reader goes over, and which line is due after it. Assumes nothing.
+use Rattle.std.specs.Prelude.{◌≡◌, ℕ, ◌-◌, ◌<◌, List, ◌++◌}
+use Rattle.columns.specs.Lines.{next, row_due}
+use Rattle.columns.specs.declared.line.Due.{Due}
+use Rattle.columns.specs.declared.line.Due.TheVariants.{Table}
 use Rattle.faults.specs.declared.Position.{Position}
 use Rattle.reader.specs.declared.Reader.{Reader}
 
@@ -7,10 +10,28 @@ use Rattle.reader.specs.declared.Reader.{Reader}
 abbrev pub left : Reader → List ℕ
 left r = r.rest.now
 
+-- this line is due, and so many matrix lines follow it
+pub record Expects (r : Reader) (line : Due) (count : ℕ) : Type 0 where
+  pub due : r.due ≡ line
+  pub rows : r.rows ≡ count
+
+-- the reader moved on to the line due after the one that was due
+abbrev pub Turned : Reader → Reader → Type 0
+Turned r s = Expects s (next r.rows r.due) (r.rows - 1)
+
+-- so many matrix lines are due, and then the end line
+abbrev pub RowsDue : Reader → ℕ → Type 0
+RowsDue r rows = Expects r (row_due rows) (rows - 1)
+
+-- the same line is due
+abbrev pub SameLine : Reader → Reader → Type 0
+SameLine r s = Expects s r.due r.rows
+
 -- the reader stands at the start of the text
 pub record Starts (r : Reader) (text : List ℕ) : Type 0 where
   pub whole : left r ≡ text
   pub position : r.position ≡ record { line = 1; column = 1 }
+  pub expects : Expects r Table 0
 
 -- the reader can go on: no count is near its limit
 pub record Able (r : Reader) : Type 0 where

@@ -3,9 +3,9 @@
 
 ghost use Rattle.std.specs.Prelude.{◌≡◌, ℕ, ◌-◌, ◌^◌, ◌<◌, ◌≤◌, [], ◌∷◌, length, OnOk, IfOk, OnErr, IfErr};
 ghost use Rattle.columns.specs.Numbers.{number};
-ghost use Rattle.columns.specs.Lines.{due_letter, next};
+ghost use Rattle.columns.specs.Lines.{due_letter};
 ghost use Rattle.reader.specs.Items.{first, close, ranged, along, after, Halts, Stopped};
-ghost use Rattle.reader.specs.Steps.{left, Starts, Able, Went};
+ghost use Rattle.reader.specs.Steps.{left, Starts, Able, Went, Turned, SameLine};
 ghost use Rattle.faults.specs.declared.LoadFault.TheVariants.{Beyond};
 
 use columns::column::{check_partial_number, read_number};
@@ -13,12 +13,14 @@ use columns::line::{Due, Kind, turn};
 use faults::{LineFault, LoadFault, Position};
 use field::Field;
 
-/// The rest of a text; `position` is the line and column of its first byte.
+/// The rest of a text, the position of its first byte, and the line that is due, which `rows` matrix lines follow.
 // `Able` is no ghost field: a reader of any text can be made, and a long enough text takes its counts past any limit.
 #[derive(Clone, Copy)]
 pub struct Reader<'a> {
     rest: &'a [u8],
     position: Position,
+    due: Due,
+    rows: usize,
 }
 
 impl<'a> Reader<'a> {
@@ -29,6 +31,8 @@ impl<'a> Reader<'a> {
         Reader {
             rest: text,
             position: Position { line: 1, column: 1 },
+            due: Due::Table,
+            rows: 0,
         }
     }
 }
@@ -45,11 +49,19 @@ impl Reader<'_> {
         Ok(())
     }
 
-    /// Reads the first byte of the line due, which `rows` matrix lines follow, and returns the line due after it.
-    pub fn head(&mut self, due: Due, rows: usize) -> Result<Due, LineFault>
+    /// Sets the number of matrix lines that follow the line due.
+    pub fn expect_rows(&mut self, rows: usize)
+        ensures expected { self.new ≡ record self.old { rows = rows } }
+    {
+        self.rows = rows;
+    }
+
+    /// Reads the first byte of the line due. The line after it is due then.
+    pub fn head(&mut self) -> Result<(), LineFault>
         requires able { Able self.old }
-        ensures next_due { IfOk result (λ then. Went self.old self.new (due_letter due ∷ []) (along self.old.position 1) × (then ≡ next rows due)) }
-        ensures halts { IfErr result (Halts (first (due_letter due)) self.old.position (left self.old)) }
+        ensures first_byte { OnOk result (Went self.old self.new (due_letter self.old.due ∷ []) (along self.old.position 1)) }
+        ensures turned { OnOk result (Turned self.old self.new) }
+        ensures halts { IfErr result (Halts (first (due_letter self.old.due)) self.old.position (left self.old)) }
         ensures unchanged { OnErr result (self.new ≡ self.old) }
     {
         let (letter, rest) = self
@@ -58,16 +70,19 @@ impl Reader<'_> {
             .ok_or(LineFault::Ends(self.position))?;
         let unexpected = LineFault::Unexpected(self.position);
         let kind = Kind::try_from(char::from(*letter)).or(Err(unexpected))?;
-        let then = turn(due, kind, rows).ok_or(unexpected)?;
+        let then = turn(self.due, kind, self.rows).ok_or(unexpected)?;
         self.rest = rest;
         self.position.column += 1;
-        Ok(then)
+        self.due = then;
+        self.rows = self.rows.saturating_sub(1);
+        Ok(())
     }
 
     /// Reads the end of a line.
     pub fn newline(&mut self) -> Result<(), LineFault>
         requires able { Able self.old }
         ensures next_line { OnOk result (Went self.old self.new (10 ∷ []) (after close self.old.position)) }
+        ensures same_line { OnOk result (SameLine self.old self.new) }
         ensures halts { IfErr result (Halts close self.old.position (left self.old)) }
         ensures unchanged { OnErr result (self.new ≡ self.old) }
     {
@@ -89,6 +104,7 @@ impl Reader<'_> {
     pub fn number(&mut self) -> Result<u64, LineFault>
         requires able { Able self.old }
         ensures number { IfOk result (λ v. (v < 10 ^ 10) × Went self.old self.new (number v) (along self.old.position 11)) }
+        ensures same_line { OnOk result (SameLine self.old self.new) }
         ensures halts { IfErr result (λ f. (low high : ℕ) → Halts (ranged low high) self.old.position (left self.old) f) }
         ensures unchanged { OnErr result (self.new ≡ self.old) }
     {
@@ -111,6 +127,7 @@ impl Reader<'_> {
     pub fn within(&mut self, low: u64, high: u64) -> Result<u64, LoadFault>
         requires able { Able self.old }
         ensures value { IfOk result (λ v. (v < 10 ^ 10) × (low ≤ v) × (v ≤ high) × Went self.old self.new (number v) (along self.old.position 11)) }
+        ensures same_line { OnOk result (SameLine self.old self.new) }
         ensures stops { IfErr result (Stopped (ranged low high) self.old.position (left self.old)) }
         ensures unchanged { OnErr result (self.new ≡ self.old) }
     {
@@ -127,6 +144,7 @@ impl Reader<'_> {
     pub fn element<F: Field>(&mut self) -> Result<F, LoadFault>
         requires able { Able self.old }
         ensures element { IfOk result (λ x. Went self.old self.new (number (F.field.code (F.value x))) (along self.old.position 11)) }
+        ensures same_line { OnOk result (SameLine self.old self.new) }
         ensures stops { IfErr result (Stopped (ranged 0 (F.field.q - 1)) self.old.position (left self.old)) }
         ensures unchanged { OnErr result (self.new ≡ self.old) }
     {

@@ -3,12 +3,12 @@ use Rattle.std.proofs.Common.{◌≡◌, ℕ, zero, suc, ◌+◌, ◌-◌, ◌<�
 use Rattle.std.specs.List.{range_with_len, flat_map}
 use Rattle.columns.specs.Lines.{line, row_due, next}
 use Rattle.reader.specs.Items.{Item, first, ranged, close, along, after, line_items, Stops}
-use Rattle.reader.specs.Steps.{Went}
+use Rattle.reader.specs.Steps.{Went, Expects, Turned, RowsDue}
 use Rattle.text.specs.Rows.{row_line}
 use Rattle.faults.specs.declared.Position.{Position}
 use Rattle.faults.specs.declared.LoadFault.{LoadFault}
 use Rattle.columns.specs.declared.line.Due.{Due}
-use Rattle.columns.specs.declared.line.Due.TheVariants.{Matrix}
+use Rattle.columns.specs.declared.line.Due.TheVariants.{Start, Matrix}
 use Rattle.reader.specs.declared.Reader.{Reader}
 use Rattle.reader.proofs.Runs.{went_more}
 use Rattle.text.proofs.Rows.{items_at, down, down_down}
@@ -36,10 +36,20 @@ pub row_due_some : (m : ℕ) → 0 < m → row_due m ≡ Matrix
 row_due_some zero h = absurd (omega arith)
 row_due_some (suc m) h = refl
 
-pub row_due_next : (due then : Due) (j m : ℕ) → j < m → due ≡ row_due (m - j) → then ≡ next (m - j - 1) due → then ≡ row_due (m - (j + 1))
+row_due_next : (due then : Due) (j m : ℕ) → j < m → due ≡ row_due (m - j) → then ≡ next (m - j - 1) due → then ≡ row_due (m - (j + 1))
 row_due_next due then j m h e t =
     let w : m - j - 1 ≡ m - (j + 1) = omega arith in
     t ∙ ap (next (m - j - 1)) (e ∙ row_due_some (m - j) (omega arith)) ∙ ap row_due w
+
+pub rows_due_next : (s t : Reader) (j m : ℕ) → j < m → RowsDue s (m - j) → Turned s t → RowsDue t (m - (j + 1))
+rows_due_next s t j m h e turned = record {
+  due = row_due_next s.due t.due j m h e.due (turned.due ∙ ap (λ k. next k s.due) e.rows);
+  rows = let w : m - j - 1 - 1 ≡ m - (j + 1) - 1 = omega arith in turned.rows ∙ ap (λ k. k - 1) e.rows ∙ w;
+}
+
+-- after the start line the matrix lines are due
+pub start_turned : (r s : Reader) (m : ℕ) → Expects r Start m → Turned r s → RowsDue s m
+start_turned r s m e turned = record { due = turned.due ∙ (λ i. next (e.rows i) (e.due i)); rows = turned.rows ∙ ap (λ k. k - 1) e.rows }
 
 pub body_went : (n m : ℕ) (r s t u x y : Reader) (start rows end : List ℕ) → Went r s (line 83 start) (after close r.position) → Went s t (flat_map (row_line n rows) (range_with_len 0 m)) (down s.position m) → Went t u (line 69 end) (after close t.position) → Went u x (90 ∷ []) (along u.position 1) → Went x y (10 ∷ []) (after close x.position) → Went r y (body n m start rows end) (down r.position (3 + m))
 body_went n m r s t u x y start rows end one two three four five =

@@ -4,44 +4,42 @@ ghost use Rattle.series.specs.Tables.{Table};
 ghost use Rattle.rows.specs.Memory.{Frame};
 ghost use Rattle.rows.specs.Layout.{table_size, table_at};
 ghost use Rattle.reader.specs.Items.{Stops};
-ghost use Rattle.reader.specs.Steps.{left, AtLine, Went};
+ghost use Rattle.reader.specs.Steps.{left, AtLine, Went, Expects};
 ghost use Rattle.text.specs.Texts.{text_of, body_of, body_items};
+ghost use Rattle.columns.specs.declared.line.Due.TheVariants as due;
 ghost use Rattle.text.specs.Readings.{Sized, Accepts, Refuses};
 
 use super::lines::{codes_line, matrices, table_line};
-use columns::line::Due;
 use faults::LoadFault;
 use field::Field;
 use reader::Reader;
 use rows::table::Shape;
 
-/// Goes over the lines after the first, of which `due` is due; the elements take the table's values.
+/// Reads the lines after the first; the elements take the table's values.
 fn body<F: Field>(
     reader: &mut Reader<'_>,
-    due: Due,
     shape: Shape,
     elements: &mut [F],
 ) -> Result<(), LoadFault>
     requires starts { AtLine reader.old 100 }
-    requires start_due { due ≡ Due.Start }
+    requires start_due { Expects reader.old due.Start (shape.letters * shape.states) }
     requires room { length elements.old ≡ table_size shape.states shape.letters }
     ensures lines { OnOk result (Went reader.old reader.new (body_of F.field (table_at F.field F.value elements.new 0 shape.states shape.letters)) (record { line = reader.old.position.line + (3 + shape.letters * shape.states); column = 1 })) }
     ensures stops { IfErr result (Stops (body_items F.field shape.states shape.letters) reader.old.position (left reader.old)) }
 {
     let n = shape.states;
-    let count = shape.letters * n;
     let (start, rest) = elements.split_at_mut(n);
-    let (rows, end) = rest.split_at_mut(count * n);
-    let row_due = codes_line(reader, due, count, &[], start)?;
-    let end_due = matrices(reader, row_due, shape, rows)?;
-    let close_due = codes_line(reader, end_due, 0, &[], end)?;
-    reader.head(close_due, 0)?;
+    let (rows, end) = rest.split_at_mut(shape.letters * n * n);
+    codes_line(reader, &[], start)?;
+    matrices(reader, shape, rows)?;
+    codes_line(reader, &[], end)?;
+    reader.head()?;
     reader.newline()?;
     Ok(())
 }
 
-/// Reads the table of a text into the front of `work`: its shape, or why the text is refused.
-// Room for the largest table, told by a clause: how large it is, is known once it is read.
+/// Reads the table of a text into the front of `work` and returns its shape, or why the text is refused.
+// `work` has room for the largest table, since the table's size is known only from the text.
 pub fn read_table<F: Field>(text: &[u8], work: &mut [F]) -> Result<Shape, LoadFault>
     requires room { 1568 ≤ length work.old }
     ensures accepted { IfOk result (λ shape. Accepts F.field F.value text.now shape work.new) }
@@ -50,8 +48,8 @@ pub fn read_table<F: Field>(text: &[u8], work: &mut [F]) -> Result<Shape, LoadFa
     ensures table_alone_written { MatchResult result (λ shape. Frame 0 (table_size shape.states shape.letters) work.old work.new) (λ _. Frame 0 1568 work.old work.new) }
 {
     let mut reader = Reader::new(text);
-    let (shape, due) = table_line::<F>(&mut reader)?;
-    body(&mut reader, due, shape, &mut work[0..shape.size()])?;
+    let shape = table_line::<F>(&mut reader)?;
+    body(&mut reader, shape, &mut work[0..shape.size()])?;
     reader.finish()?;
     Ok(shape)
 }
