@@ -1,9 +1,12 @@
 -- What a step of the reader goes over, and which line is due after it. Assumes nothing.
-use Rattle.std.specs.Prelude.{◌≡◌, ℕ, ◌-◌, ◌<◌, List, ◌++◌}
-use Rattle.columns.specs.Lines.{next, row_due}
+use Rattle.std.specs.Prelude.{◌≡◌, ℕ, ◌+◌, ◌-◌, ◌<◌, List, ◌++◌}
+use Rattle.columns.specs.Lines.{next, row_due, line}
 use Rattle.columns.specs.declared.line.Due.{Due}
 use Rattle.columns.specs.declared.line.Due.TheVariants.{Table}
+use Rattle.reader.specs.Items.{Item, close, along, after, Halts, Stopped, Stops}
 use Rattle.faults.specs.declared.Position.{Position}
+use Rattle.faults.specs.declared.LineFault.{LineFault}
+use Rattle.faults.specs.declared.LoadFault.{LoadFault}
 use Rattle.reader.specs.declared.Reader.{Reader}
 
 -- what is left of the text
@@ -47,3 +50,26 @@ pub record AtLine (r : Reader) (n : ℕ) : Type 0 where
 pub record Went (r s : Reader) (bs : List ℕ) (p : Position) : Type 0 where
   pub over : left r ≡ bs ++ left s
   pub position : s.position ≡ p
+
+-- it went over bytes that are n columns of its line
+abbrev pub WentAlong : Reader → Reader → List ℕ → ℕ → Type 0
+WentAlong r s bs n = Went r s bs (along r.position n)
+
+-- it went over a line of this first byte and these numbers
+abbrev pub WentLine : Reader → Reader → ℕ → List ℕ → Type 0
+WentLine r s first vs = Went r s (line first vs) (after close r.position)
+
+-- it went over bytes that are n lines, to the start of the next line
+abbrev pub WentLines : Reader → Reader → List ℕ → ℕ → Type 0
+WentLines r s bs n = Went r s bs (record { line = r.position.line + n; column = 1 })
+
+-- the fault of a line, or of a text, that stops in an item where the reader stands
+abbrev pub HaltsAt : Reader → Item → LineFault → Type 0
+HaltsAt r item f = Halts item r.position (left r) f
+
+abbrev pub StoppedAt : Reader → Item → LoadFault → Type 0
+StoppedAt r item f = Stopped item r.position (left r) f
+
+-- the fault of a text that stops in one of the items
+abbrev pub StopsAt : Reader → List Item → LoadFault → Type 0
+StopsAt r items f = Stops items r.position (left r) f

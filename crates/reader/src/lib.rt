@@ -4,8 +4,9 @@
 ghost use Rattle.std.specs.Prelude.{◌≡◌, ℕ, ◌-◌, ◌^◌, ◌<◌, ◌≤◌, [], ◌∷◌, length, OnOk, IfOk, OnErr, IfErr};
 ghost use Rattle.columns.specs.Numbers.{number};
 ghost use Rattle.columns.specs.Lines.{due_letter};
-ghost use Rattle.reader.specs.Items.{first, close, ranged, along, after, Halts, Stopped};
-ghost use Rattle.reader.specs.Steps.{left, Starts, Able, Went, Turned, SameLine};
+ghost use Rattle.reader.specs.Items.{first, close, ranged, after};
+ghost use Rattle.reader.specs.Steps.{left, Starts, Able, Turned, SameLine};
+ghost use Rattle.reader.specs.Steps.{Went, WentAlong, HaltsAt, StoppedAt};
 ghost use Rattle.faults.specs.declared.LoadFault.TheVariants.{Beyond};
 
 use columns::column::{check_partial_number, read_number};
@@ -59,9 +60,9 @@ impl Reader<'_> {
     /// Reads the first byte of the line due. The line after it is due then.
     pub fn head(&mut self) -> Result<(), LineFault>
         requires able { Able self.old }
-        ensures first_byte { OnOk result (Went self.old self.new (due_letter self.old.due ∷ []) (along self.old.position 1)) }
+        ensures first_byte { OnOk result (WentAlong self.old self.new (due_letter self.old.due ∷ []) 1) }
         ensures turned { OnOk result (Turned self.old self.new) }
-        ensures halts { IfErr result (Halts (first (due_letter self.old.due)) self.old.position (left self.old)) }
+        ensures halts { IfErr result (HaltsAt self.old (first (due_letter self.old.due))) }
         ensures unchanged { OnErr result (self.new ≡ self.old) }
     {
         let (letter, rest) = self
@@ -83,7 +84,7 @@ impl Reader<'_> {
         requires able { Able self.old }
         ensures next_line { OnOk result (Went self.old self.new (10 ∷ []) (after close self.old.position)) }
         ensures same_line { OnOk result (SameLine self.old self.new) }
-        ensures halts { IfErr result (Halts close self.old.position (left self.old)) }
+        ensures halts { IfErr result (HaltsAt self.old close) }
         ensures unchanged { OnErr result (self.new ≡ self.old) }
     {
         match self.rest {
@@ -103,9 +104,9 @@ impl Reader<'_> {
     /// Reads a number.
     pub fn number(&mut self) -> Result<u64, LineFault>
         requires able { Able self.old }
-        ensures number { IfOk result (λ v. (v < 10 ^ 10) × Went self.old self.new (number v) (along self.old.position 11)) }
+        ensures number { IfOk result (λ v. (v < 10 ^ 10) × WentAlong self.old self.new (number v) 11) }
         ensures same_line { OnOk result (SameLine self.old self.new) }
-        ensures halts { IfErr result (λ f. (low high : ℕ) → Halts (ranged low high) self.old.position (left self.old) f) }
+        ensures halts { IfErr result (λ f. (low high : ℕ) → HaltsAt self.old (ranged low high) f) }
         ensures unchanged { OnErr result (self.new ≡ self.old) }
     {
         let Some((columns, rest)) = self.rest.split_first_chunk::<11>() else {
@@ -126,9 +127,10 @@ impl Reader<'_> {
     /// Reads a number from `low` to `high`.
     pub fn within(&mut self, low: u64, high: u64) -> Result<u64, LoadFault>
         requires able { Able self.old }
-        ensures value { IfOk result (λ v. (v < 10 ^ 10) × (low ≤ v) × (v ≤ high) × Went self.old self.new (number v) (along self.old.position 11)) }
+        ensures in_range { IfOk result (λ v. (v < 10 ^ 10) × (low ≤ v) × (v ≤ high)) }
+        ensures value { IfOk result (λ v. WentAlong self.old self.new (number v) 11) }
         ensures same_line { OnOk result (SameLine self.old self.new) }
-        ensures stops { IfErr result (Stopped (ranged low high) self.old.position (left self.old)) }
+        ensures stops { IfErr result (StoppedAt self.old (ranged low high)) }
         ensures unchanged { OnErr result (self.new ≡ self.old) }
     {
         let mut after = *self;
@@ -143,9 +145,9 @@ impl Reader<'_> {
     /// Reads a code and returns its element.
     pub fn element<F: Field>(&mut self) -> Result<F, LoadFault>
         requires able { Able self.old }
-        ensures element { IfOk result (λ x. Went self.old self.new (number (F.field.code (F.value x))) (along self.old.position 11)) }
+        ensures element { IfOk result (λ x. WentAlong self.old self.new (number (F.field.code (F.value x))) 11) }
         ensures same_line { OnOk result (SameLine self.old self.new) }
-        ensures stops { IfErr result (Stopped (ranged 0 (F.field.q - 1)) self.old.position (left self.old)) }
+        ensures stops { IfErr result (StoppedAt self.old (ranged 0 (F.field.q - 1))) }
         ensures unchanged { OnErr result (self.new ≡ self.old) }
     {
         let mut after = *self;

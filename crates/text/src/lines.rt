@@ -1,8 +1,9 @@
 //! The lines of a table's text, read in place.
 ghost use Rattle.std.specs.Prelude.{◌≡◌, ◌+◌, ◌*◌, ◌≤◌, [], ◌∷◌, ◌++◌, length, OnOk, IfOk, IfErr};
-ghost use Rattle.columns.specs.Lines.{letter as letter_of, due_letter, numbers, TenDigits, line as line_of};
-ghost use Rattle.reader.specs.Items.{close, along, after, exact_items, line_items, Stops};
-ghost use Rattle.reader.specs.Steps.{left, Able, AtLine, Went, Expects, Turned, SameLine, RowsDue};
+ghost use Rattle.columns.specs.Lines.{letter as letter_of, due_letter, numbers, TenDigits};
+ghost use Rattle.reader.specs.Items.{exact_items, line_items};
+ghost use Rattle.reader.specs.Steps.{Able, AtLine, Expects, Turned, SameLine, RowsDue};
+ghost use Rattle.reader.specs.Steps.{WentAlong, WentLine, WentLines, StopsAt};
 ghost use Rattle.text.specs.Texts.{code_items, table_items};
 ghost use Rattle.text.specs.Rows.{codes_of, row_lines, row_items};
 ghost use Rattle.columns.specs.declared.line.Kind.TheVariants as kind;
@@ -21,8 +22,9 @@ fn exactly(reader: &mut Reader<'_>, values: &[u64]) -> Result<(), LoadFault>
     requires narrow { reader.old.position.column ≤ 100 }
     requires few { length values.now ≤ 16 }
     ensures same_line { OnOk result (SameLine reader.old reader.new) }
-    ensures values { OnOk result (TenDigits values.now × Went reader.old reader.new (numbers values.now) (along reader.old.position (11 * length values.now))) }
-    ensures stops { IfErr result (Stops (exact_items values.now) reader.old.position (left reader.old)) }
+    ensures ten_digits { OnOk result (TenDigits values.now) }
+    ensures values { OnOk result (WentAlong reader.old reader.new (numbers values.now) (11 * length values.now)) }
+    ensures stops { IfErr result (StopsAt reader.old (exact_items values.now)) }
 {
     for value in values {
         reader.within(*value, *value)?;
@@ -36,8 +38,8 @@ fn codes<F: Field>(reader: &mut Reader<'_>, elements: &mut [F]) -> Result<(), Lo
     requires narrow { reader.old.position.column ≤ 100 }
     requires few { length elements.old ≤ 16 }
     ensures same_line { OnOk result (SameLine reader.old reader.new) }
-    ensures row { OnOk result (Went reader.old reader.new (numbers (codes_of F.field F.value elements.new)) (along reader.old.position (11 * length elements.old))) }
-    ensures stops { IfErr result (Stops (code_items F.field (length elements.old)) reader.old.position (left reader.old)) }
+    ensures row { OnOk result (WentAlong reader.old reader.new (numbers (codes_of F.field F.value elements.new)) (11 * length elements.old)) }
+    ensures stops { IfErr result (StopsAt reader.old (code_items F.field (length elements.old))) }
 {
     for x in elements.iter_mut() {
         *x = reader.element()?;
@@ -54,9 +56,9 @@ pub fn codes_line<F: Field>(
     requires starts { AtLine reader.old 10000 }
     requires few_heads { length heads.now ≤ 2 }
     requires few { length elements.old ≤ 16 }
-    ensures line { OnOk result (Went reader.old reader.new (line_of (due_letter reader.old.due) (heads.now ++ codes_of F.field F.value elements.new)) (after close reader.old.position)) }
+    ensures line { OnOk result (WentLine reader.old reader.new (due_letter reader.old.due) (heads.now ++ codes_of F.field F.value elements.new)) }
     ensures turned { OnOk result (Turned reader.old reader.new) }
-    ensures stops { IfErr result (Stops (line_items (due_letter reader.old.due) (exact_items heads.now ++ code_items F.field (length elements.old))) reader.old.position (left reader.old)) }
+    ensures stops { IfErr result (StopsAt reader.old (line_items (due_letter reader.old.due) (exact_items heads.now ++ code_items F.field (length elements.old)))) }
 {
     reader.head()?;
     exactly(reader, heads)?;
@@ -69,9 +71,9 @@ pub fn codes_line<F: Field>(
 pub fn table_line<F: Field>(reader: &mut Reader<'_>) -> Result<Shape, LoadFault>
     requires starts { AtLine reader.old 10000 }
     requires table_due { reader.old.due ≡ due.Table }
-    ensures shape { IfOk result (λ shape. Went reader.old reader.new (line_of (letter_of kind.Table) (shape.states ∷ shape.letters ∷ F.field.q ∷ [])) (after close reader.old.position)) }
+    ensures shape { IfOk result (λ shape. WentLine reader.old reader.new (letter_of kind.Table) (shape.states ∷ shape.letters ∷ F.field.q ∷ [])) }
     ensures start_due { IfOk result (λ shape. Expects reader.new due.Start (shape.letters * shape.states)) }
-    ensures stops { IfErr result (Stops (table_items F.field) reader.old.position (left reader.old)) }
+    ensures stops { IfErr result (StopsAt reader.old (table_items F.field)) }
 {
     reader.head()?;
     let states = reader.within(0, 16)?;
@@ -97,9 +99,9 @@ pub fn matrices<F: Field>(
     requires starts { AtLine reader.old 1000 }
     requires rows_due { RowsDue reader.old (shape.letters * shape.states) }
     requires room { length elements.old ≡ shape.letters * shape.states * shape.states }
-    ensures lines { OnOk result (Went reader.old reader.new (row_lines shape.states (codes_of F.field F.value elements.new) (shape.letters * shape.states)) (record { line = reader.old.position.line + shape.letters * shape.states; column = 1 })) }
+    ensures lines { OnOk result (WentLines reader.old reader.new (row_lines shape.states (codes_of F.field F.value elements.new) (shape.letters * shape.states)) (shape.letters * shape.states)) }
     ensures end_due { OnOk result (RowsDue reader.new 0) }
-    ensures stops { IfErr result (Stops (row_items F.field shape.states (shape.letters * shape.states)) reader.old.position (left reader.old)) }
+    ensures stops { IfErr result (StopsAt reader.old (row_items F.field shape.states (shape.letters * shape.states))) }
 {
     let n = shape.states;
     // an index, since after `chunks_exact_mut` nothing is known of the elements

@@ -3,8 +3,7 @@ ghost use Rattle.std.specs.Prelude.{◌≡◌, ◌+◌, ◌*◌, ◌≤◌, fals
 ghost use Rattle.series.specs.Tables.{Table};
 ghost use Rattle.rows.specs.Memory.{Frame};
 ghost use Rattle.rows.specs.Layout.{table_size, table_at};
-ghost use Rattle.reader.specs.Items.{Stops};
-ghost use Rattle.reader.specs.Steps.{left, AtLine, Went, Expects};
+ghost use Rattle.reader.specs.Steps.{AtLine, Expects, WentLines, StopsAt};
 ghost use Rattle.text.specs.Texts.{text_of, body_of, body_items};
 ghost use Rattle.columns.specs.declared.line.Due.TheVariants as due;
 ghost use Rattle.text.specs.Readings.{Sized, Accepts, Refuses};
@@ -24,8 +23,8 @@ fn body<F: Field>(
     requires starts { AtLine reader.old 100 }
     requires start_due { Expects reader.old due.Start (shape.letters * shape.states) }
     requires room { length elements.old ≡ table_size shape.states shape.letters }
-    ensures lines { OnOk result (Went reader.old reader.new (body_of F.field (table_at F.field F.value elements.new 0 shape.states shape.letters)) (record { line = reader.old.position.line + (3 + shape.letters * shape.states); column = 1 })) }
-    ensures stops { IfErr result (Stops (body_items F.field shape.states shape.letters) reader.old.position (left reader.old)) }
+    ensures lines { OnOk result (WentLines reader.old reader.new (body_of F.field (table_at F.field F.value elements.new 0 shape.states shape.letters)) (3 + shape.letters * shape.states)) }
+    ensures stops { IfErr result (StopsAt reader.old (body_items F.field shape.states shape.letters)) }
 {
     let n = shape.states;
     let (start, rest) = elements.split_at_mut(n);
