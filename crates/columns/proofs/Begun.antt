@@ -41,7 +41,7 @@ unfolding begun
 blank zero h = refl
 blank (suc i) h = rw (cell_blank (suc i) h, blank i (omega arith), replicate_more, add-one)
 
--- what the definition of a number says, for each count of columns
+-- the definition of a number, for each count of columns
 spelled : (i v : ℕ) → i ≤ 11 → (0 < v) ⊎ (10 < i) → v < 10 ^ i → v < 2 ^ 64 → replicate (i - length (decimal v)) 32 ++ decimal v ≡ begun i v
 unfolding begun
 spelled zero v h (inl a) l f = absurd (omega arith)
@@ -112,7 +112,7 @@ push_parts i p q x y a b e = (
   sym (get_or_at p x [] 0 i a) ∙ ap (λ l. get_or l i 0) e ∙ get_or_at q y [] 0 i b,
 )
 
--- the columns tell the value
+-- equal columns have equal values
 pub begun_same : (i v w : ℕ) → v < 10 ^ i → w < 10 ^ i → begun i v ≡ begun i w → v ≡ w
 unfolding begun
 begun_same zero v w h k e = omega arith

@@ -1,4 +1,4 @@
--- Lengths of lines, and what equal lines tell. Assumes nothing.
+-- Lengths of lines, and what follows from equal lines. Assumes nothing.
 use Rattle.std.proofs.Common.{◌≡◌, ℕ, zero, suc, ◌+◌, ◌-◌, ◌*◌, ◌^◌, ◌<◌, ◌≤◌, List, [], ◌∷◌, ◌++◌, length, take, drop, replicate, decimal, sym, refl, ap, ◌∙◌, ⊎_elim, append_assoc, add-mul, zero-mul, add-one, arith}
 use native.Mathlib.Nat.{pow-le-pow_right}
 use Rattle.std.specs.List.{range_with_len, flat_map}

@@ -1,4 +1,4 @@
--- What a step of the reader goes over, and where it stops. Assumes nothing.
+-- One step of the reader: what it reads, and where it stops. Assumes nothing.
 use Rattle.std.proofs.Common.{◌≡◌, ℕ, ◌+◌, ◌<◌, ◌≤◌, List, [], ◌∷◌, length, get_or, take, sym, refl, ap, ◌∙◌, subst, inr, add-zero, arith}
 use Rattle.std.specs.declared.option.Option.{Option}
 use Rattle.std.specs.declared.option.Option.TheVariants.{Some, None}

@@ -1,4 +1,4 @@
--- What several steps of the reader go over, and where they stop. Assumes nothing.
+-- Several steps of the reader: what they read, and where they stop. Assumes nothing.
 use Rattle.std.proofs.Common.{◌≡◌, ℕ, zero, suc, ◌+◌, ◌*◌, ◌^◌, ◌<◌, ◌≤◌, ◌⊎◌, List, [], ◌∷◌, ◌++◌, length, get_or, take, drop, set, replicate, sym, refl, ap, ◌∙◌, subst, inl, inr, append_assoc, arith}
 use Rattle.std.specs.List.{AllByRecursion as All}
 use Rattle.std.proofs.lemmas.List.{take_more_set, drop_more, take-append-drop, map-append, length-take, take_at}
@@ -111,7 +111,7 @@ pub after_row : (high n : ℕ) (p : Position) → after_all (replicate n (ranged
 after_row high zero p = standing p 0 refl
 after_row high (suc n) p = after_row high n (along p 11) ∙ along_along p 11 (11 * n) (11 * suc n) (omega arith)
 
--- the reader goes over an item, or over several, and stops later
+-- the reader passes an item, or several, and stops later
 pub went_stops : (i : Item) (is : List Item) (r s : Reader) (a : List ℕ) (f : LoadFault) → Passes i a → Went r s a (after i r.position) → Stops is s.position (left s) f → Stops (i ∷ is) r.position (left r) f
 unfolding Stops
 went_stops i is r s a f h w stops = inr (a, left s, h, w.over, subst (λ p. Stops is p (left s) f) w.position stops)

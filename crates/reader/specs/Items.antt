@@ -80,7 +80,7 @@ unfoldable pub Goes : List Item → List ℕ → Type 0
 Goes [] bs = bs ≡ []
 Goes (i ∷ is) bs = (a : List ℕ) × (b : List ℕ) × Passes i a × Goes is b × (bs ≡ a ++ b)
 
--- a reader of the items stops in one of them, and goes over those before it
+-- a reader of the items passes some of them and stops in the next
 unfoldable pub Stops : List Item → Position → List ℕ → LoadFault → Type 0
 Stops [] p bs f = ⊥
 Stops (i ∷ is) p bs f = Stopped i p bs f ⊎ ((a : List ℕ) × (b : List ℕ) × Passes i a × (bs ≡ a ++ b) × Stops is (after i p) b f)

@@ -1,4 +1,4 @@
--- What a step of the reader goes over, and which line is due after it. Assumes nothing.
+-- What a step of the reader reads, and which line is due after it. Assumes nothing.
 use Rattle.std.specs.Prelude.{◌≡◌, ℕ, ◌+◌, ◌-◌, ◌<◌, List, ◌++◌}
 use Rattle.columns.specs.Lines.{next, row_due, line}
 use Rattle.columns.specs.declared.line.Due.{Due}
@@ -46,20 +46,20 @@ pub record AtLine (r : Reader) (n : ℕ) : Type 0 where
   pub line : r.position.line < n
   pub start : r.position.column ≡ 1
 
--- the reader went over the bytes, and stands at the position p
+-- from r to s the reader read these bytes, and it stands at the position p
 pub record Went (r s : Reader) (bs : List ℕ) (p : Position) : Type 0 where
   pub over : left r ≡ bs ++ left s
   pub position : s.position ≡ p
 
--- it went over bytes that are n columns of its line
+-- it read bytes that are n columns of one line
 abbrev pub WentAlong : Reader → Reader → List ℕ → ℕ → Type 0
 WentAlong r s bs n = Went r s bs (along r.position n)
 
--- it went over a line of this first byte and these numbers
+-- it read a line of this first byte and these numbers
 abbrev pub WentLine : Reader → Reader → ℕ → List ℕ → Type 0
 WentLine r s first vs = Went r s (line first vs) (after close r.position)
 
--- it went over bytes that are n lines, to the start of the next line
+-- it read bytes that are n lines, and stands at the start of the next line
 abbrev pub WentLines : Reader → Reader → List ℕ → ℕ → Type 0
 WentLines r s bs n = Went r s bs (record { line = r.position.line + n; column = 1 })
 

@@ -1,4 +1,4 @@
--- What a whole reading leaves and tells. Assumes nothing.
+-- What reading a whole text leaves and returns. Assumes nothing.
 use Rattle.std.proofs.Common.{◌≡◌, ℕ, ◌+◌, ◌-◌, ◌*◌, ◌<◌, ◌≤◌, List, [], ◌∷◌, ◌++◌, length, get_or, take, drop, sym, refl, ap, ◌∙◌, subst, append_assoc, append-nil, mul_assoc, arith}
 use borrow.Rule.Slice.PartMut.{put_mid}
 use Rattle.std.proofs.lemmas.List.{length-map, length-drop, length-append, map-append, drop-append-le, take-append-le, get_or-append_right, get_or-drop}

@@ -1,4 +1,4 @@
--- The text of a table, and what a reader of it goes over. Assumes nothing.
+-- The text of a table, and the items that a reader of it expects. Assumes nothing.
 use Rattle.std.specs.Prelude.{ℕ, ◌+◌, ◌-◌, ◌*◌, ◌≤◌, List, [], ◌∷◌, ◌++◌, map, replicate}
 use Rattle.std.specs.List.{range_with_len, flat_map}
 use Rattle.field.specs.FiniteField.{FiniteField}
