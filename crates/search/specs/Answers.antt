@@ -3,7 +3,10 @@ use Rattle.std.specs.Prelude.{◌≡◌, ℕ, ◌-◌, ◌≤◌, take, drop, re
 use Rattle.field.specs.FiniteField.{FiniteField}
 use Rattle.series.specs.Tables.{Table}
 use Rattle.series.specs.Words.{Word}
+use Rattle.series.specs.Comparing.{Alike as AllWordsAlike}
 use Rattle.walk.specs.Comparing.{AllAlike, FirstDifference}
+use Rattle.walk.specs.Pairs.{left_table, right_table}
+use Rattle.walk.specs.declared.pairs.Pair.{Pair}
 use Rattle.search.specs.declared.compare.Comparison.{Comparison}
 use Rattle.search.specs.declared.compare.Comparison.TheVariants.{Alike, Differs}
 use Rattle.search.specs.declared.word.ReportedWord.{ReportedWord}
@@ -26,6 +29,16 @@ pub record Reported {V : Type 0} (K : FiniteField V) (S T : Table V) (word : Rep
 abbrev pub Compared : {V : Type 0} → FiniteField V → Table V → Table V → Comparison → Type 0
 Compared K S T (Alike tried kept) = AllAlike K S T tried kept
 Compared K S T (Differs word tried left right) = Reported K S T word tried left right
+
+-- a pair of tables that lie in memory
+module _ {V : Type 0} (K : FiniteField V) {F : Type 0} (value : F → V) (both : Pair F) where
+  -- the answer says how the two compare
+  abbrev pub Compares : Comparison → Type 0
+  Compares r = Compared K (left_table K value both) (right_table K value both) r
+
+  -- all words weigh alike under the two
+  abbrev pub WeighAlike : Type 0
+  WeighAlike = AllWordsAlike K (left_table K value both) (right_table K value both)
 
 -- all words are said to weigh alike
 abbrev pub SaysAlike : Comparison → Type 0

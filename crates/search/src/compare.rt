@@ -1,14 +1,12 @@
 //! Comparing two tables: whether all words weigh alike, and if not, the first word that does not.
 ghost use Rattle.std.specs.Prelude.{◌≤◌, length as size};
-ghost use Rattle.series.specs.Comparing.{Alike as AllWordsAlike};
-ghost use Rattle.walk.specs.Pairs.{left_table, right_table};
-ghost use Rattle.search.specs.Answers.{Compared, SaysAlike, Bounded};
+ghost use Rattle.search.specs.Answers.{Compares, WeighAlike, SaysAlike, Bounded};
 
 use crate::word::{ReportedWord, empty_word, spell};
 use field::Field;
 use walk::links::Walk;
 use walk::pairs::Pair;
-use walk::walk::{try_empty, try_rest};
+use walk::walk::{Difference, try_words};
 
 // Where in work memory the rows in echelon form begin; the pair rows of the kept words lie before them.
 const ECHELON: usize = 2048;
@@ -34,32 +32,30 @@ pub enum Comparison {
 // How long it is stays a clause: an array of elements would ask its caller for one, and a shelf is lent slices.
 pub fn compare<F: Field>(work: &mut [F], pair: Pair<'_, F>) -> Comparison
     requires room { 8192 ≤ size work.old }
-    ensures answer { Compared F.field (left_table F.field F.value pair.entry) (right_table F.field F.value pair.entry) result }
+    ensures answer { Compares F.field F.value pair.entry result }
     ensures bounded { Bounded result }
-    ensures alike_only_if_all_weigh_alike { SaysAlike result → AllWordsAlike F.field (left_table F.field F.value pair.entry) (right_table F.field F.value pair.entry) }
-    ensures alike_if_all_weigh_alike { AllWordsAlike F.field (left_table F.field F.value pair.entry) (right_table F.field F.value pair.entry) → SaysAlike result }
+    ensures alike_only_if_all_weigh_alike { SaysAlike result → WeighAlike F.field F.value pair.entry }
+    ensures alike_if_all_weigh_alike { WeighAlike F.field F.value pair.entry → SaysAlike result }
 {
     let (rows, echelon) = work.split_at_mut(ECHELON);
     let letters = pair.left.letters();
     let mut walk = Walk::new();
-    if let Err(weights) = try_empty(rows, echelon, &mut walk, pair) {
-        return Comparison::Differs {
+    match try_words(rows, echelon, &mut walk, pair) {
+        Ok(()) => Comparison::Alike {
+            tried: 1 + letters * walk.count(),
+            kept: walk.count(),
+        },
+        Err(Difference::Empty(weights)) => Comparison::Differs {
             word: empty_word(),
             tried: 1,
             left: weights.left,
             right: weights.right,
-        };
-    }
-    if let Err(f) = try_rest(rows, echelon, &mut walk, pair) {
-        return Comparison::Differs {
+        },
+        Err(Difference::Longer(f)) => Comparison::Differs {
             word: spell(&walk, f.last),
             tried: 1 + f.last.parent * letters + usize::from(f.last.letter),
             left: f.weights.left,
             right: f.weights.right,
-        };
-    }
-    Comparison::Alike {
-        tried: 1 + letters * walk.count(),
-        kept: walk.count(),
+        },
     }
 }

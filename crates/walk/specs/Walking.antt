@@ -2,15 +2,21 @@
 use Rattle.std.specs.Prelude.{◌≡◌, ℕ, ◌+◌, ◌*◌, ◌<◌, ◌≤◌, List, [], ◌∷◌, ◌++◌, length, slice_index, slice_index_or}
 use Rattle.field.specs.FiniteField.{FiniteField}
 use Rattle.series.specs.Comparing.{Kept}
+use Rattle.series.specs.Listing.{Listed}
 use Rattle.series.specs.EliminationProgress.{Basis}
 use Rattle.field.specs.Rows.{Agree, row_at, square_at}
 use Rattle.series.specs.Tables.{Table, weight, pair}
 use Rattle.series.specs.WalkProgress.{Scanned}
 use Rattle.series.specs.Words.{Word, ◌≺◌}
 use Rattle.walk.specs.Comparing.{FirstDifference}
+use Rattle.walk.specs.Pairs.{width, left_table, right_table}
+use Rattle.walk.specs.declared.pairs.Pair.{Pair}
 use Rattle.walk.specs.declared.links.Link.{Link}
 use Rattle.walk.specs.declared.links.Walk.{Walk}
 use Rattle.walk.specs.declared.walk.Found.{Found}
+use Rattle.walk.specs.declared.walk.Difference.{Difference}
+use Rattle.walk.specs.declared.walk.Difference.TheVariants.{Empty, Longer}
+use Rattle.walk.specs.declared.pairs.Weights.{Weights}
 
 -- how many words are kept
 abbrev pub kept : Walk → ℕ
@@ -68,3 +74,35 @@ pub record FoundDifference {V : Type 0} (K : FiniteField V) (S T : Table V) (w :
   pub inside : f.last.parent < kept w
   pub letter : f.last.letter ≤ S.letters
   pub difference : FirstDifference K S T (words f.last.parent ++ f.last.letter ∷ []) (1 + f.last.parent * S.letters + f.last.letter) f.weights.left f.weights.right
+
+-- how far a walk over a pair of tables has come, and how it ends
+module _ {F V : Type 0} (K : FiniteField V) (v : F → V) (both : Pair F) where
+  -- the kept word i with the letter a is to be tried next
+  abbrev pub AtLetter : ℕ → ℕ → Walk → List F → List F → Type 0
+  AtLetter i a w rs es = Ready K v (left_table K v both) (right_table K v both) i a w rs es
+
+  -- the kept word i is to be tried next, with each letter
+  abbrev pub AtWord : ℕ → Walk → List F → List F → Type 0
+  AtWord i w rs es = Passed K v (left_table K v both) (right_table K v both) i w rs es
+
+  -- the empty word is the least difference, with these codes
+  abbrev pub EmptyDiffers : Weights → Type 0
+  EmptyDiffers w = FirstDifference K (left_table K v both) (right_table K v both) [] 1 w.left w.right
+
+  -- the word of the link is the least difference
+  abbrev pub LinkDiffers : Walk → Found → Type 0
+  LinkDiffers w f = FoundDifference K (left_table K v both) (right_table K v both) w f
+
+  -- the kept words in shortlex order, with their links, and what work memory holds of them: each weighs alike under both tables
+  pub record KeptWords (w : Walk) (rs es : List F) : Type 0 where
+    pub words : ℕ → Word
+    pub listed : Listed (Kept K (left_table K v both) (right_table K v both)) (kept w) words
+    pub linked : Linked (kept w) words w.links.items
+    pub held : Held K v (left_table K v both) (right_table K v both) (kept w) words rs es w.pivots.items
+    -- this follows
+    pub few : kept w ≤ width both
+
+  -- this difference is the least one
+  abbrev pub DiffersFirst : Walk → Difference → Type 0
+  DiffersFirst w (Empty codes) = EmptyDiffers codes
+  DiffersFirst w (Longer f) = LinkDiffers w f

@@ -1,5 +1,5 @@
 //! Pair rows: the rows of two tables after one word, side by side.
-ghost use Rattle.std.specs.Prelude.{◌≡◌, ◌+◌, ◌≤◌, [], ◌∷◌, ◌++◌, length, MatchOption, ⊤};
+ghost use Rattle.std.specs.Prelude.{◌≡◌, ◌≤◌, [], length, ⊤};
 
 use field::Field;
 use rows::row::{dot, row_times_matrix};
@@ -34,10 +34,7 @@ pub struct Weights {
 }
 
 impl<'a, F: Field> Pair<'a, F> {
-    ghost use Rattle.field.specs.Rows.{Agree, at, RowOf};
-    ghost use Rattle.series.specs.Tables.{pair, weight};
-    ghost use Rattle.series.specs.Words.{Word};
-    ghost use Rattle.walk.specs.Pairs.{width, left_table, right_table, Unlike};
+    ghost use Rattle.walk.specs.Pairs.{width, PairRow, OneLetterMore, ComparesWeights};
 
     /// How long a pair row is.
     pub(crate) fn width(self) -> usize
@@ -51,7 +48,7 @@ impl<'a, F: Field> Pair<'a, F> {
     // Not by rows' `write_beside`: long walks took 6 to 8 in a hundred longer with it, and missed the bench's aim.
     pub fn start_row(self, to: &mut [F])
         requires as_long { length to.old ≡ width self }
-        ensures pair_row_of_empty_word { RowOf F.field F.value (width self.entry) (pair F.field (left_table F.field F.value self.entry) (right_table F.field F.value self.entry) []) to.new }
+        ensures pair_row_of_empty_word { PairRow F.field F.value self.entry [] to.new }
     {
         let (left, right) = to.split_at_mut(self.left.states());
         left.copy_from_slice(self.left.start());
@@ -63,8 +60,7 @@ impl<'a, F: Field> Pair<'a, F> {
         requires row_as_long { length row.now ≡ width self }
         requires as_long { length to.old ≡ width self }
         requires letter_of_tables { (1 ≤ letter) × (letter ≤ self.left.shape.letters) }
-        ensures pair_row_of_longer_word { (u : Word) → Agree (width self.entry) (at F.field F.value row.now) (pair F.field (left_table F.field F.value self.entry) (right_table F.field F.value self.entry) u)
-            → Agree (width self.entry) (at F.field F.value to.new) (pair F.field (left_table F.field F.value self.entry) (right_table F.field F.value self.entry) (u ++ letter ∷ [])) }
+        ensures pair_row_of_longer_word { OneLetterMore F.field F.value self.entry letter row.now to.new }
     {
         let n = self.left.states();
         let (left, right) = row.split_at(n);
@@ -76,9 +72,7 @@ impl<'a, F: Field> Pair<'a, F> {
     /// The codes of the two weights of the word that has this pair row, if the weights are not the same.
     pub fn difference(self, row: &[F]) -> Option<Weights>
         requires row_as_long { length row.now ≡ width self }
-        ensures compares_weights { (u : Word) → Agree (width self.entry) (at F.field F.value row.now) (pair F.field (left_table F.field F.value self.entry) (right_table F.field F.value self.entry) u)
-            → MatchOption result (weight F.field (left_table F.field F.value self.entry) u ≡ weight F.field (right_table F.field F.value self.entry) u)
-            (λ w. Unlike F.field (left_table F.field F.value self.entry) (right_table F.field F.value self.entry) u w.left w.right) }
+        ensures compares_weights { ComparesWeights F.field F.value self.entry row.now result }
     {
         let (left, right) = row.split_at(self.left.states());
         let left = dot(left, self.left.end(), 0, 1);

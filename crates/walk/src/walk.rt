@@ -1,8 +1,7 @@
 //! The walk through the tried words of two tables, in shortlex order.
-ghost use Rattle.std.specs.Prelude.{◌≡◌, ◌+◌, ◌<◌, ◌≤◌, [], length, MatchResult};
-ghost use Rattle.walk.specs.Pairs.{left_table, right_table};
-ghost use Rattle.walk.specs.Comparing.{FirstDifference};
-ghost use Rattle.walk.specs.Walking.{kept, Ready, Passed, FoundDifference};
+ghost use Rattle.std.specs.Prelude.{◌≡◌, ◌+◌, ◌≤◌, length, OnOk, IfErr};
+ghost use Rattle.walk.specs.Walking.{kept, AtLetter, AtWord, EmptyDiffers, LinkDiffers, KeptWords, DiffersFirst};
+ghost use Rattle.walk.specs.declared.walk.Difference.TheVariants.{Empty as EmptyWord, Longer as LongerWord};
 
 use crate::links::{Link, Walk};
 use crate::pairs::{Pair, Weights};
@@ -14,6 +13,29 @@ use field::Field;
 pub struct Found {
     pub last: Link,
     pub weights: Weights,
+}
+
+/// The word that weighs differently: the empty word, with its weights, or a longer one.
+#[derive(Clone, Copy, Debug, PartialEq, Eq)]
+pub enum Difference {
+    Empty(Weights),
+    Longer(Found),
+}
+
+impl From<Weights> for Difference {
+    ghost from_gives = { λ weights d. d ≡ EmptyWord weights };
+
+    fn from(weights: Weights) -> Difference {
+        Difference::Empty(weights)
+    }
+}
+
+impl From<Found> for Difference {
+    ghost from_gives = { λ found d. d ≡ LongerWord found };
+
+    fn from(found: Found) -> Difference {
+        Difference::Longer(found)
+    }
 }
 
 // Tries a kept word with one letter more: keeps it if its pair row is no combination of those of the kept words, or stops at it
@@ -29,10 +51,11 @@ fn try_letter<F: Field>(
 ) -> Result<(), Found>
     requires room { (1056 ≤ length rows.old) × (1056 ≤ length echelon.old) }
     requires letter_of_tables { (1 ≤ link.letter) × (link.letter ≤ pair.left.shape.letters) }
-    requires ready { Ready F.field F.value (left_table F.field F.value pair) (right_table F.field F.value pair) link.parent link.letter walk.old rows.old echelon.old }
-    ensures next_letter_or_found { MatchResult result
-        (λ _. Ready F.field F.value (left_table F.field F.value pair.entry) (right_table F.field F.value pair.entry) link.parent (link.letter + 1) walk.new rows.new echelon.new)
-        (λ f. FoundDifference F.field (left_table F.field F.value pair.entry) (right_table F.field F.value pair.entry) walk.new f) }
+    requires ready { AtLetter F.field F.value pair link.parent link.letter
+        walk.old rows.old echelon.old }
+    ensures ok { OnOk result (AtLetter F.field F.value pair.entry link.parent (link.letter + 1)
+        walk.new rows.new echelon.new) }
+    ensures err { IfErr result (LinkDiffers F.field F.value pair.entry walk.new) }
 {
     let d = pair.width();
     let (before, rest) = rows.split_at_mut(walk.count() * d);
@@ -60,10 +83,10 @@ fn try_letters<F: Field>(
     i: usize,
 ) -> Result<(), Found>
     requires room { (1056 ≤ length rows.old) × (1056 ≤ length echelon.old) }
-    requires ready { Ready F.field F.value (left_table F.field F.value pair) (right_table F.field F.value pair) i 1 walk.old rows.old echelon.old }
-    ensures past_letters_or_found { MatchResult result
-        (λ _. Ready F.field F.value (left_table F.field F.value pair.entry) (right_table F.field F.value pair.entry) i (pair.entry.left.shape.letters + 1) walk.new rows.new echelon.new)
-        (λ f. FoundDifference F.field (left_table F.field F.value pair.entry) (right_table F.field F.value pair.entry) walk.new f) }
+    requires ready { AtLetter F.field F.value pair i 1 walk.old rows.old echelon.old }
+    ensures ok { OnOk result (AtLetter F.field F.value pair.entry i (pair.entry.left.shape.letters + 1)
+        walk.new rows.new echelon.new) }
+    ensures err { IfErr result (LinkDiffers F.field F.value pair.entry walk.new) }
 {
     // By number: letters lie in no collection.
     for letter in 1..=pair.left.letters() {
@@ -77,9 +100,9 @@ fn try_letters<F: Field>(
     Ok(())
 }
 
-/// Tries the empty word. The pair rows of the kept words are written to `rows`, and to `echelon` rows in echelon form that
-/// span the same.
-pub fn try_empty<F: Field>(
+// Tries the empty word. The pair rows of the kept words are written to `rows`, and to `echelon` rows in echelon form that
+// span the same.
+fn try_empty<F: Field>(
     rows: &mut [F],
     echelon: &mut [F],
     walk: &mut Walk,
@@ -87,9 +110,8 @@ pub fn try_empty<F: Field>(
 ) -> Result<(), Weights>
     requires room { (1056 ≤ length rows.old) × (1056 ≤ length echelon.old) }
     requires no_word { kept walk.old ≡ 0 }
-    ensures begun_or_found { MatchResult result
-        (λ _. Passed F.field F.value (left_table F.field F.value pair.entry) (right_table F.field F.value pair.entry) 0 walk.new rows.new echelon.new)
-        (λ w. FirstDifference F.field (left_table F.field F.value pair.entry) (right_table F.field F.value pair.entry) [] 1 w.left w.right) }
+    ensures ok { OnOk result (AtWord F.field F.value pair.entry 0 walk.new rows.new echelon.new) }
+    ensures err { IfErr result (EmptyDiffers F.field F.value pair.entry) }
 {
     let row = &mut rows[..pair.width()];
     pair.start_row(row);
@@ -102,19 +124,19 @@ pub fn try_empty<F: Field>(
     Ok(())
 }
 
-/// Tries each kept word with each letter, those too that are kept on the way.
+// Tries each kept word with each letter, those too that are kept on the way.
 // Not one with the passes of a reduction: a walk ends at a difference, notes the words' links, and each of the three keeps other rows.
-pub fn try_rest<F: Field>(
+fn try_rest<F: Field>(
     rows: &mut [F],
     echelon: &mut [F],
     walk: &mut Walk,
     pair: Pair<'_, F>,
 ) -> Result<(), Found>
     requires room { (1056 ≤ length rows.old) × (1056 ≤ length echelon.old) }
-    requires begun { Passed F.field F.value (left_table F.field F.value pair) (right_table F.field F.value pair) 0 walk.old rows.old echelon.old }
-    ensures through_or_found { MatchResult result
-        (λ _. Passed F.field F.value (left_table F.field F.value pair.entry) (right_table F.field F.value pair.entry) (kept walk.new) walk.new rows.new echelon.new)
-        (λ f. FoundDifference F.field (left_table F.field F.value pair.entry) (right_table F.field F.value pair.entry) walk.new f) }
+    requires begun { AtWord F.field F.value pair 0 walk.old rows.old echelon.old }
+    ensures ok { OnOk result (AtWord F.field F.value pair.entry (kept walk.new)
+        walk.new rows.new echelon.new) }
+    ensures err { IfErr result (LinkDiffers F.field F.value pair.entry walk.new) }
 {
     // the kept words become more while they are walked through, so that no range has their count
     let mut i = 0;
@@ -122,5 +144,24 @@ pub fn try_rest<F: Field>(
         try_letters(rows, echelon, walk, pair, i)?;
         i += 1;
     }
+    Ok(())
+}
+
+/// Tries the empty word, and then each kept word with each letter, up to the first word that weighs differently. The pair
+/// rows of the kept words are written to `rows`, and to `echelon` rows in echelon form that span the same.
+pub fn try_words<F: Field>(
+    rows: &mut [F],
+    echelon: &mut [F],
+    walk: &mut Walk,
+    pair: Pair<'_, F>,
+) -> Result<(), Difference>
+    requires room { (1056 ≤ length rows.old) × (1056 ≤ length echelon.old) }
+    requires no_word { kept walk.old ≡ 0 }
+    ensures ok { OnOk result (KeptWords F.field F.value pair.entry
+        walk.new rows.new echelon.new) }
+    ensures err { IfErr result (DiffersFirst F.field F.value pair.entry walk.new) }
+{
+    try_empty(rows, echelon, walk, pair)?;
+    try_rest(rows, echelon, walk, pair)?;
     Ok(())
 }

@@ -5,17 +5,15 @@ use Rattle.walk.proofs.Differences.{empty_difference}
 use Rattle.walk.proofs.WalkSteps.{passed_none, passed_first}
 use Rattle.walk.proofs.walk.try_empty.Goals as goal
 
-pub returns-in-Some : goal.returns-in-Some
-returns-in-Some g c =
+pub returns-in-Some-clause-err : goal.returns-in-Some-clause-err
+returns-in-Some-clause-err g c =
     let K = g.F.Field.field in let v = g.F.Field.value in
     let a = c.args in
-    record {
-      begun_or_found = empty_difference K (left_table K v a.pair) (right_table K v a.pair) c.in-Some.weights.left c.in-Some.weights.right
-          (c.in-Some.ensures.compares_weights [] c.start_row.ensures.pair_row_of_empty_word.same);
-    }
+    empty_difference K (left_table K v a.pair) (right_table K v a.pair) c.in-Some.weights.left c.in-Some.weights.right
+    (c.in-Some.ensures.compares_weights [] c.start_row.ensures.pair_row_of_empty_word.same)
 
-pub returns-in_default-keep_row : goal.returns-in_default-keep_row
-returns-in_default-keep_row g c =
+pub returns-in_default-keep_row-clause-ok : goal.returns-in_default-keep_row-clause-ok
+returns-in_default-keep_row-clause-ok g c =
     let K = g.F.Field.field in let v = g.F.Field.value in
     let a = c.args in
     let S = left_table K v a.pair in
@@ -24,13 +22,11 @@ returns-in_default-keep_row g c =
     let row = c.start_row.new.to in
     let behind = drop c.width.result a.rows.now in
     let left = c.in_default-keep_row.ensures in
-    record {
-      begun_or_found = passed_none K v S T a.walk.now a.walk.now.pivots.items row a.rows.now a.echelon.now (row ++ behind) c.keep_row.new.echelon c.requires.no_word start.same
-          (rw (start.len, c.deref.ensures.0, c.requires.no_word) at left.nothing_left_or_new_row);
-    }
+    passed_none K v S T a.walk.now a.walk.now.pivots.items row a.rows.now a.echelon.now (row ++ behind) c.keep_row.new.echelon c.requires.no_word start.same
+    (rw (start.len, c.deref.ensures.0, c.requires.no_word) at left.nothing_left_or_new_row)
 
-pub returns-in-Some-keep_row : goal.returns-in-Some-keep_row
-returns-in-Some-keep_row g c =
+pub returns-in-Some-keep_row-clause-ok : goal.returns-in-Some-keep_row-clause-ok
+returns-in-Some-keep_row-clause-ok g c =
     let K = g.F.Field.field in let v = g.F.Field.value in
     let a = c.args in
     let S = left_table K v a.pair in
@@ -39,8 +35,6 @@ returns-in-Some-keep_row g c =
     let row = c.start_row.new.to in
     let behind = drop c.width.result a.rows.now in
     let new = c.in-Some-keep_row.ensures in
-    record {
-      begun_or_found = passed_first K v S T c.in-Some-keep_row.pivot c.default.result a.walk.now c.note.new.self row a.rows.now a.echelon.now (row ++ behind) c.keep_row.new.echelon c.requires.no_word start.same
-          (λ j l. at_front K v row behind j (rw start.len l)) (c.in_default.ensures.compares_weights [] start.same)
-          (rw (start.len, c.deref.ensures.0, c.requires.no_word) at new.nothing_left_or_new_row) (rw (start.len, c.deref.ensures.0, c.requires.no_word) at new.all_else_unchanged) c.note.ensures.noted;
-    }
+    passed_first K v S T c.in-Some-keep_row.pivot c.default.result a.walk.now c.note.new.self row a.rows.now a.echelon.now (row ++ behind) c.keep_row.new.echelon c.requires.no_word start.same
+    (λ j l. at_front K v row behind j (rw start.len l)) (c.in_default.ensures.compares_weights [] start.same)
+    (rw (start.len, c.deref.ensures.0, c.requires.no_word) at new.nothing_left_or_new_row) (rw (start.len, c.deref.ensures.0, c.requires.no_word) at new.all_else_unchanged) c.note.ensures.noted

@@ -23,8 +23,8 @@ keep_row-requires g c =
     rw (long, c.deref.ensures.0)
     record { room = omega arith; echelon_form = r.held.basis.stairs; ones_at_pivots = r.held.ones }
 
-pub returns-in-Some : goal.returns-in-Some
-returns-in-Some g c =
+pub returns-in-Some-clause-err : goal.returns-in-Some-clause-err
+returns-in-Some-clause-err g c =
     let K = g.F.Field.field in let v = g.F.Field.value in
     let a = c.args in
     let S = left_table K v a.pair in
@@ -40,19 +40,17 @@ returns-in-Some g c =
     let x = r.words a.link.parent ++ a.link.letter ∷ [] in
     let e : Agree d (at K v c.step_row.new.to) (pair K S T x) = rw (c.from.ensures) at c.step_row.ensures.pair_row_of_longer_word (r.words a.link.parent) (λ j l. before j l ∙ r.held.rows a.link.parent r.inside j l) in
     record {
-      next_letter_or_found = record {
-        words = r.words;
-        linked = r.linked;
-        few = r.few;
-        inside = r.inside;
-        letter = c.requires.letter_of_tables.1;
-        difference = longer_difference K S T n r.words a.link.parent a.link.letter c.in-Some.weights.left c.in-Some.weights.right
-            r.few r.inside c.requires.letter_of_tables.0 c.requires.letter_of_tables.1 r.scanned r.held.alike (c.in-Some.ensures.compares_weights x e);
-      };
+      words = r.words;
+      linked = r.linked;
+      few = r.few;
+      inside = r.inside;
+      letter = c.requires.letter_of_tables.1;
+      difference = longer_difference K S T n r.words a.link.parent a.link.letter c.in-Some.weights.left c.in-Some.weights.right
+          r.few r.inside c.requires.letter_of_tables.0 c.requires.letter_of_tables.1 r.scanned r.held.alike (c.in-Some.ensures.compares_weights x e);
     }
 
-pub returns-in_default-keep_row : goal.returns-in_default-keep_row
-returns-in_default-keep_row g c =
+pub returns-in_default-keep_row-clause-ok : goal.returns-in_default-keep_row-clause-ok
+returns-in_default-keep_row-clause-ok g c =
     let K = g.F.Field.field in let v = g.F.Field.value in
     let a = c.args in
     let S = left_table K v a.pair in
@@ -72,13 +70,11 @@ returns-in_default-keep_row g c =
     let behind = drop c.width-d.result s.result.1.now in
     let stay = others_stay work K v row behind long in
     let left = c.in_default-keep_row.ensures in
-    record {
-      next_letter_or_found = ready_skip K v S T a.link.parent a.link.letter a.walk.now row a.rows.now (s.result.0.now ++ (row ++ behind)) a.echelon.now c.keep_row.new.echelon r e stay
-          (rw (long, c.deref.ensures.0) at left.nothing_left_or_new_row) (rw (long, c.deref.ensures.0) at left.all_else_unchanged);
-    }
+    ready_skip K v S T a.link.parent a.link.letter a.walk.now row a.rows.now (s.result.0.now ++ (row ++ behind)) a.echelon.now c.keep_row.new.echelon r e stay
+    (rw (long, c.deref.ensures.0) at left.nothing_left_or_new_row) (rw (long, c.deref.ensures.0) at left.all_else_unchanged)
 
-pub returns-in-Some-keep_row : goal.returns-in-Some-keep_row
-returns-in-Some-keep_row g c =
+pub returns-in-Some-keep_row-clause-ok : goal.returns-in-Some-keep_row-clause-ok
+returns-in-Some-keep_row-clause-ok g c =
     let K = g.F.Field.field in let v = g.F.Field.value in
     let a = c.args in
     let S = left_table K v a.pair in
@@ -99,8 +95,6 @@ returns-in-Some-keep_row g c =
     let stay = others_stay work K v row behind long in
     let written = row_written work K v row behind long in
     let new = c.in-Some-keep_row.ensures in
-    record {
-      next_letter_or_found = ready_keep K v S T a.link c.in-Some-keep_row.pivot a.walk.now c.note.new.self row a.rows.now (s.result.0.now ++ (row ++ behind)) a.echelon.now c.keep_row.new.echelon r
-          c.requires.letter_of_tables.0 c.requires.letter_of_tables.1 e stay written (c.in_default.ensures.compares_weights x e)
-          (rw (long, c.deref.ensures.0) at new.nothing_left_or_new_row) (rw (long, c.deref.ensures.0) at new.all_else_unchanged) c.note.ensures.noted;
-    }
+    ready_keep K v S T a.link c.in-Some-keep_row.pivot a.walk.now c.note.new.self row a.rows.now (s.result.0.now ++ (row ++ behind)) a.echelon.now c.keep_row.new.echelon r
+    c.requires.letter_of_tables.0 c.requires.letter_of_tables.1 e stay written (c.in_default.ensures.compares_weights x e)
+    (rw (long, c.deref.ensures.0) at new.nothing_left_or_new_row) (rw (long, c.deref.ensures.0) at new.all_else_unchanged) c.note.ensures.noted
