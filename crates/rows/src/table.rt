@@ -5,8 +5,10 @@ ghost use Rattle.rows.specs.Layout.{table_size};
 use field::Field;
 use std::alloc::AllocError;
 
-/// How many elements the largest table takes.
+/// How many elements the largest table takes, one of 16 states and 6 letters.
 pub const LARGEST: usize = 1568;
+
+const _: () = prove!(LARGEST == 16 + 6 * (16 * 16) + 16);
 
 /// How many states and letters a table has: from 0 to 16 states and from 1 to 6 letters; no other shape can be made.
 #[derive(Clone, Copy, Debug, PartialEq, Eq)]
