@@ -1,6 +1,6 @@
 -- Rows side by side, and tables that whole slices hold. Assumes nothing.
-use Rattle.std.proofs.Common.{◌≡◌, ℕ, ◌+◌, ◌-◌, ◌*◌, ◌<◌, ◌≤◌, List, ◌++◌, length, take, drop, get_or, sym, refl, ap, ◌∙◌, subst, arith}
-use Rattle.std.proofs.lemmas.List.{length-append, length-take, length-take-le, length-drop, get_or-take, get_or-append-add, get_or_append_left}
+use Rattle.std.proofs.Common.{◌≡◌, ℕ, ◌+◌, ◌-◌, ◌*◌, ◌<◌, ◌≤◌, List, ◌++◌, length, take, drop, get_or, sym, refl, ap, ◌∙◌, subst, arith, rules}
+use Rattle.std.proofs.lemmas.List.{places, length-append, length-take, length-take-le, length-drop, get_or-take, get_or-append-add, get_or_append_left}
 use borrow.Rule.Slice.PartMut.{put_mid}
 use Rattle.std.proofs.lemmas.Nat.{mul-add-lt}
 use Rattle.field.specs.FiniteField.{FiniteField}
@@ -11,6 +11,7 @@ use Rattle.series.proofs.Weights.{same_weight}
 use Rattle.series.proofs.Places.{both_parts, beside_left, beside_right}
 use Rattle.rows.specs.Layout.{table_size, table_at, matrix_offset, end_offset}
 use Rattle.rows.specs.Seen.{HoldsTable}
+use Rattle.rows.specs.Writing.{StandsAt}
 use Rattle.rows.proofs.Memory.{at_copied}
 use Rattle.field.proofs.Rows.{length_part, at_part}
 use Rattle.rows.proofs.Splits.{at_front, at_back}
@@ -20,6 +21,14 @@ module _ {X : Type 0} where
   -- an element before the part that is written
   pub before_part : (a k : ℕ) (xs ys : List X) (i : ℕ) (d : X) → i < a → a ≤ length xs → get_or (put_mid a k xs ys) i d ≡ get_or xs i d
   before_part a k xs ys i d l h = get_or_append_left (take a xs) _ d i (omega (arith, length-take-le a xs h)) ∙ get_or-take a xs i d l
+
+  -- an element behind that part
+  pub behind_part : (a k : ℕ) (xs ys : List X) (i : ℕ) (d : X) → a + k ≤ i → length ys ≡ k → a + k ≤ length xs → get_or (put_mid a k xs ys) i d ≡ get_or xs i d
+  behind_part a k xs ys i d l e h = search (rules, places)
+
+  -- a part of a slice stands where it was taken from
+  pub stands_part : (a b n : ℕ) (xs : List X) → a + n ≡ b → b ≤ length xs → StandsAt n a (take (b - a) (drop a xs)) xs
+  stands_part a b n xs e h j d l = search (rules, places)
 
   -- an element of that part
   pub in_part : (a k : ℕ) (xs ys : List X) (j : ℕ) (d : X) → j < length ys → a ≤ length xs → get_or (put_mid a k xs ys) (a + j) d ≡ get_or ys j d

@@ -1,7 +1,7 @@
 -- Reads of a slice, and what loops that write one element after another leave. Assumes nothing.
-use Rattle.std.proofs.Common.{◌≡◌, ℕ, zero, suc, ◌+◌, ◌<◌, ◌≤◌, ◌≢◌, List, [], ◌∷◌, Option, Some, None, MatchOption, length, get_or, set, sym, refl, ap, ◌∙◌, arith}
+use Rattle.std.proofs.Common.{◌≡◌, ℕ, ◌+◌, ◌<◌, ◌≤◌, ◌≢◌, List, [], ◌∷◌, Option, Some, None, MatchOption, length, get_or, sym, ap, ◌∙◌, arith}
 use Rattle.std.specs.List.{AllWithin, HoldsAt}
-use Rattle.std.proofs.lemmas.List.{get_or-map, get_or-set_same, get_or-set_other, length-set}
+use Rattle.std.proofs.lemmas.List.{get_or-map}
 use Rattle.field.specs.FiniteField.{FiniteField}
 use Rattle.field.specs.Rows.{Agree, at, row_at}
 use Rattle.rows.specs.Arithmetic.{FirstNonzero}

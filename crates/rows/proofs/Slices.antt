@@ -1,6 +1,5 @@
 -- Rows and matrices in a part of a slice. Assumes nothing.
-use Rattle.std.proofs.Common.{◌≡◌, ℕ, ◌+◌, ◌-◌, ◌*◌, ◌<◌, ◌≤◌, List, map, length, take, drop, get_or, set, sym, refl, ap, ◌∙◌, arith, below_more}
-use Rattle.std.proofs.lemmas.List.{length-set, length-take-le, length-drop, get_or-take, get_or-drop, take-map, drop-map}
+use Rattle.std.proofs.Common.{◌≡◌, ℕ, ◌+◌, ◌-◌, ◌*◌, ◌<◌, ◌≤◌, List, length, take, drop, refl, ap, ◌∙◌, arith}
 use Rattle.std.proofs.lemmas.Nat.{mul-add-lt}
 use Rattle.field.specs.FiniteField.{FiniteField}
 use Rattle.field.specs.Rows.{Agree, at, row_at, square_at, RowOf}
@@ -9,7 +8,7 @@ use Rattle.series.specs.Tables.{SameTable}
 use Rattle.rows.specs.Layout.{table_size, table_at}
 use Rattle.rows.proofs.Layouts.{matrix_within}
 use Rattle.rows.specs.Seen.{SquareOf}
-use Rattle.field.proofs.Rows.{at_set_same, at_set_other, dot_same}
+use Rattle.field.proofs.Rows.{dot_same}
 use Rattle.field.proofs.Rows.{length_part, at_part}
 
 module _ {F V : Type 0} (K : FiniteField V) (v : F → V) where

@@ -1,5 +1,5 @@
 -- What lies in a slice of elements, and what a function leaves of it. Assumes nothing.
-use Rattle.std.specs.Prelude.{◌≡◌, ℕ, ◌+◌, ◌*◌, ◌<◌, ◌≤◌, List, map, length, slice_index_or}
+use Rattle.std.specs.Prelude.{◌≡◌, ℕ, ◌+◌, ◌<◌, ◌≤◌, List, length, slice_index_or}
 use Rattle.field.specs.FiniteField.{FiniteField}
 use Rattle.field.specs.Rows.{row_at, Agree}
 

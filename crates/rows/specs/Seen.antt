@@ -1,7 +1,7 @@
 -- Tables seen in memory, and the rows and matrices that whole slices hold. Assumes nothing.
 use Rattle.std.specs.Prelude.{◌≡◌, ℕ, ◌*◌, ◌<◌, List, length}
 use Rattle.field.specs.FiniteField.{FiniteField}
-use Rattle.field.specs.Rows.{Agree, at, square_at}
+use Rattle.field.specs.Rows.{Agree, square_at}
 use Rattle.series.specs.Tables.{Table, SameTable}
 use Rattle.rows.specs.declared.table.TableRef.{TableRef}
 use Rattle.rows.specs.Layout.{table_size, table_at}

@@ -19,9 +19,9 @@ pub fn write_table<T, S: FnOnce(&mut [T]), R: Fn(usize, usize, &mut [T]), E: FnO
     requires start_taken { TakesPart S.FnOnce write_start shape.states }
     requires rows_taken { TakesRows R.Fn write_row shape.states shape.letters }
     requires end_taken { TakesPart E.FnOnce write_end shape.states }
-    ensures start_written { WritesPart S.FnOnce write_start shape.states 0 to.new }
-    ensures rows_written { WritesRows R.Fn write_row shape.states shape.letters shape.states to.new }
-    ensures end_written { WritesPart E.FnOnce write_end shape.states (end_offset 0 shape.states shape.letters) to.new }
+    ensures start_written { WritesPart S.FnOnce write_start shape.states 0 to.old to.new }
+    ensures rows_written { WritesRows R.Fn write_row shape.states shape.letters shape.states to.old to.new }
+    ensures end_written { WritesPart E.FnOnce write_end shape.states (end_offset 0 shape.states shape.letters) to.old to.new }
 {
     let n = shape.states();
     let (start, rest) = to.split_at_mut(n);
@@ -37,7 +37,7 @@ pub fn write_table<T, S: FnOnce(&mut [T]), R: Fn(usize, usize, &mut [T]), E: FnO
 fn write_rows<T, R: Fn(usize, usize, &mut [T])>(shape: Shape, to: &mut [T], write_row: R)
     requires as_long { length to.old ≡ shape.letters * shape.states * shape.states }
     requires rows_taken { TakesRows R.Fn write_row shape.states shape.letters }
-    ensures rows_written { WritesRows R.Fn write_row shape.states shape.letters 0 to.new }
+    ensures rows_written { WritesRows R.Fn write_row shape.states shape.letters 0 to.old to.new }
 {
     let n = shape.states();
     for r in 0..shape.letters() * n {
