@@ -1,5 +1,5 @@
 -- Kept and tried words, and when two tables weigh alike. Assumes nothing.
-use Rattle.std.proofs.Common.{◌≡◌, ℕ, ◌+◌, ◌*◌, ◌<◌, ◌≤◌, ◌≢◌, ◌⊎◌, ◌↔◌, [], ◌∷◌, ◌++◌, length, sym, ap, ◌∙◌, subst, ap₂, inl, inr, mul_comm, arith}
+use Rattle.std.proofs.Common.{◌≡◌, ℕ, ◌+◌, ◌*◌, ◌<◌, ◌≤◌, ◌≢◌, ◌⊎◌, ◌↔◌, ◌++◌, length, sym, ◌∙◌, subst, ap₂, inl, inr, mul_comm}
 use Rattle.field.specs.FiniteField.{FiniteField}
 use Rattle.field.proofs.Laws.{same?}
 use Rattle.series.specs.Words.{Word, Over, ◌≺◌}
@@ -7,14 +7,13 @@ use Rattle.series.specs.Spans.{Span}
 use Rattle.series.specs.Comparing.{Kept, Tried, Alike, LeastDifference}
 use Rattle.series.specs.Listing.{Listed, Count}
 use Rattle.series.specs.WalkProgress.{Scanned}
-use Rattle.field.specs.Sums.{dot, move}
-use Rattle.series.specs.Tables.{Table, row, weight, beside, pair}
+use Rattle.series.specs.Tables.{Table, weight, pair, pair_step, left_outcome, right_outcome}
 use Rattle.series.proofs.Listings.{count_unique, followed_list, listed_followed}
 use Rattle.series.proofs.Differences.{minus_zero, zero_minus}
-use Rattle.series.proofs.Places.{bounded, range, range_has, range_are, both_parts, beside_left, beside_right}
-use Rattle.series.proofs.LinearMaps.{Linear, beside_linear, linear_linear, places_linear, minus_linear}
+use Rattle.series.proofs.PairRows.{step_linear, pair_push, left_linear, right_linear, left_weighs, right_weighs}
+use Rattle.series.proofs.Places.{bounded, range, range_has, range_are}
+use Rattle.series.proofs.LinearMaps.{Linear, minus_linear}
 use Rattle.series.proofs.FreshWords.{FreshUpto, fresh_span, fresh_counted, fresh_prefix, fresh_short, least_fresh, least_failing, fresh_suffice, fresh_suffice_before}
-use Rattle.series.proofs.Weights.{row_push, dot_linear, move_linear}
 
 module _ {V : Type 0} (K : FiniteField V) where
   infixl 65 ◌⊕◌
@@ -24,50 +23,17 @@ module _ {V : Type 0} (K : FiniteField V) where
     abbrev Place : ℕ → Type 0
     Place i = i < S.states + T.states
 
-    behind : (ℕ → V) → ℕ → V
-    behind z i = z (S.states + i)
-
-    stepped : ℕ → (ℕ → V) → ℕ → V
-    stepped a z = beside S.states (move K S.states (S.step a) z) (move K T.states (T.step a) (behind z))
-
-    behind_linear : Linear K Place (λ i. i < T.states) behind
-    unfolding behind
-    behind_linear = places_linear K Place (λ i. i < T.states) (λ i. S.states + i) (λ j q. omega arith)
-
-    front_linear : Linear K Place (λ i. i < S.states) (λ z. z)
-    front_linear = places_linear K Place (λ i. i < S.states) (λ i. i) (λ j q. omega arith)
-
-    stepped_linear : (a : ℕ) → Linear K Place Place (stepped a)
-    unfolding stepped
-    stepped_linear a = beside_linear K Place S.states T.states (move K S.states (S.step a)) (λ z. move K T.states (T.step a) (behind z))
-        (linear_linear K (λ z. z) (move K S.states (S.step a)) front_linear (move_linear K (λ i. i < S.states) S.states (S.step a)))
-        (linear_linear K behind (move K T.states (T.step a)) behind_linear (move_linear K (λ i. i < T.states) T.states (T.step a)))
-
-    pair_push : (w : Word) (a i : ℕ) → Place i → pair K S T (w ++ a ∷ []) i ≡ stepped a (pair K S T w) i
-    unfolding stepped behind
-    pair_push w a = both_parts S.states T.states (λ i. pair K S T (w ++ a ∷ []) i ≡ stepped a (pair K S T w) i)
-        (λ i l. beside_left S.states (row K S (w ++ a ∷ [])) (row K T (w ++ a ∷ [])) i l ∙ ap (λ x. x i) (row_push K S w a)
-        ∙ (move_linear K (λ j. j < S.states) S.states (S.step a)).same (row K S w) (pair K S T w) (λ j h. sym (beside_left S.states (row K S w) (row K T w) j h)) i l
-        ∙ sym (beside_left S.states (move K S.states (S.step a) (pair K S T w)) (move K T.states (T.step a) (behind (pair K S T w))) i l))
-        (λ i l. beside_right S.states (row K S (w ++ a ∷ [])) (row K T (w ++ a ∷ [])) i ∙ ap (λ x. x i) (row_push K T w a)
-        ∙ (move_linear K (λ j. j < T.states) T.states (T.step a)).same (row K T w) (behind (pair K S T w)) (λ j h. sym (beside_right S.states (row K S w) (row K T w) j)) i l
-        ∙ sym (beside_right S.states (move K S.states (S.step a) (pair K S T w)) (move K T.states (T.step a) (behind (pair K S T w))) i))
-
-    -- how far apart the two weigh
+    -- how far apart the two outcomes are
     apart : (ℕ → V) → Unit {0} → V
-    apart z j = dot K S.states z S.end ⊕ neg (dot K T.states (behind z) T.end)
+    apart x j = left_outcome K S T x ⊕ neg (right_outcome K S T x)
 
     apart_linear : Linear K Place (λ i. Unit {0}) apart
     unfolding apart
-    apart_linear = minus_linear K (λ z j. dot K S.states z S.end) (λ z j. dot K T.states (behind z) T.end)
-        (linear_linear K (λ z. z) (λ z j. dot K S.states z S.end) front_linear (dot_linear K (λ i. Unit {0}) S.states (λ j. S.end)))
-        (linear_linear K behind (λ z j. dot K T.states z T.end) behind_linear (dot_linear K (λ i. Unit {0}) T.states (λ j. T.end)))
+    apart_linear = minus_linear K (λ x j. left_outcome K S T x) (λ x j. right_outcome K S T x) (left_linear K S T) (right_linear K S T)
 
     apart_is : (w : Word) → apart (pair K S T w) tt ≡ weight K S w ⊕ neg (weight K T w)
-    unfolding apart behind
-    apart_is w = ap₂ (λ v u. v ⊕ neg u)
-        ((dot_linear K (λ (i : Unit {0}). Unit {0}) S.states (λ j. S.end)).same (pair K S T w) (row K S w) (λ i l. beside_left S.states (row K S w) (row K T w) i l) tt tt)
-        ((dot_linear K (λ (i : Unit {0}). Unit {0}) T.states (λ j. T.end)).same (behind (pair K S T w)) (row K T w) (λ i l. beside_right S.states (row K S w) (row K T w) i) tt tt)
+    unfolding apart
+    apart_is w = ap₂ (λ x y. x ⊕ neg y) (left_weighs K S T w) (right_weighs K S T w)
 
     alike : (w : Word) → weight K S w ≡ weight K T w → apart (pair K S T w) tt ≡ 𝟘
     alike w e = apart_is w ∙ zero_minus K (weight K S w) (weight K T w) e
@@ -77,15 +43,15 @@ module _ {V : Type 0} (K : FiniteField V) where
 
     -- a kept word has fewer letters than both tables have states together
     pub kept_short : (w : Word) → Kept K S T w → length w < S.states + T.states
-    kept_short w h = fresh_short K (S.states + T.states) S.letters (pair K S T) stepped (λ a o. stepped_linear a) pair_push w h
+    kept_short w h = fresh_short K (S.states + T.states) S.letters (pair K S T) (pair_step K S T) (λ a o. step_linear K S T a) (pair_push K S T) w h
 
     -- a prefix of a kept word is kept
     pub kept_prefix : (u v : Word) → Kept K S T (u ++ v) → Kept K S T u
-    kept_prefix = fresh_prefix K Place S.letters (pair K S T) stepped (λ a o. stepped_linear a) pair_push
+    kept_prefix = fresh_prefix K Place S.letters (pair K S T) (pair_step K S T) (λ a o. step_linear K S T a) (pair_push K S T)
 
     -- the kept words can be counted off, and are at most as many as the tables have states
     pub kept_counted : (n : ℕ) × (n ≤ S.states + T.states) × Count (Kept K S T) n
-    kept_counted = fresh_counted K (S.states + T.states) S.letters (pair K S T) stepped (λ a o. stepped_linear a) pair_push
+    kept_counted = fresh_counted K (S.states + T.states) S.letters (pair K S T) (pair_step K S T) (λ a o. step_linear K S T a) (pair_push K S T)
 
     pub kept_number : (n : ℕ) × Count (Kept K S T) n × ((m : ℕ) → Count (Kept K S T) m → m ≡ n) × (n ≤ S.states + T.states)
     kept_number = let r = kept_counted in (r.0, r.2, (λ m c. count_unique (Kept K S T) m r.0 c.0 r.2.0 c.1 r.2.1), r.1)

@@ -10,8 +10,10 @@ pub mod KeptWords
 pub mod LinearMaps
 pub mod Listings
 pub mod Lists
+pub mod OnlyOrders
 pub mod Operations
 pub mod Orders
+pub mod PairRows
 pub mod Places
 pub mod ProductTables
 pub mod Projections

@@ -4,7 +4,6 @@ use native.Mathlib.Decide.{ℕ_discrete}
 use Rattle.field.specs.FiniteField.{FiniteField}
 use Rattle.field.proofs.Laws.{zero_plus, times_zero, swap_middle}
 use Rattle.field.specs.Sums.{sum_below}
-use Rattle.field.proofs.Rows.{sum_same}
 
 module _ {V : Type 0} (K : FiniteField V) where
   infixl 65 ◌⊕◌

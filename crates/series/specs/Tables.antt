@@ -1,7 +1,7 @@
 -- Sequence tables: weighted automata over a field, and the weight of a word. Assumes nothing.
-use Rattle.std.specs.Prelude.{◌≡◌, ℕ, zero, suc, ◌<◌, ◌≤◌, [], ◌∷◌}
+use Rattle.std.specs.Prelude.{◌≡◌, ℕ, zero, suc, ◌+◌, ◌<◌, ◌≤◌, [], ◌∷◌}
 use Rattle.field.specs.FiniteField.{FiniteField}
-use Rattle.field.specs.Sums.{dot, move, sum_below}
+use Rattle.field.specs.Sums.{dot, move}
 use Rattle.series.specs.Words.{Word}
 use Rattle.field.specs.Rows.{Agree}
 
@@ -51,6 +51,23 @@ beside zero x y i = y i
 beside (suc n) x y zero = x zero
 beside (suc n) x y (suc i) = beside n (λ j. x (suc j)) y i
 
--- the rows of two tables after a word, side by side
-abbrev pub pair : {V : Type 0} (K : FiniteField V) → Table V → Table V → Word → ℕ → V
-pair K S T w = beside S.states (row K S w) (row K T w)
+-- two tables side by side
+module _ {V : Type 0} (K : FiniteField V) (S T : Table V) where
+  -- the pair row of a word: the rows of both tables after it, side by side
+  abbrev pub pair : Word → ℕ → V
+  pair w = beside S.states (row K S w) (row K T w)
+
+  -- the second table's part of a row as long as a pair row
+  abbrev pub right_part : (ℕ → V) → ℕ → V
+  right_part x i = x (S.states + i)
+
+  -- such a row times a letter's two matrices, each part times that of its table
+  abbrev pub pair_step : ℕ → (ℕ → V) → ℕ → V
+  pair_step a x = beside S.states (move K S.states (S.step a) x) (move K T.states (T.step a) (right_part x))
+
+  -- its outcomes: each part times the end column of its table
+  abbrev pub left_outcome : (ℕ → V) → V
+  left_outcome x = dot K S.states x S.end
+
+  abbrev pub right_outcome : (ℕ → V) → V
+  right_outcome x = dot K T.states (right_part x) T.end

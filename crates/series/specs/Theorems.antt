@@ -1,14 +1,20 @@
 -- The theorems as statements, over any field. What a theorem turns on, such as a bound, is an argument, which the contract that promises the theorem gives.
 -- Assumes nothing.
-use Rattle.std.specs.Prelude.{◌≡◌, ℕ, ◌+◌, ◌<◌, ◌≤◌, ◌≢◌, ◌⊎◌, ◌↔◌, length}
+use Rattle.std.specs.Prelude.{◌≡◌, ℕ, ◌+◌, ◌<◌, ◌≤◌, ◌≢◌, ◌⊎◌, ◌↔◌, Bool, IsTrue, [], ◌∷◌, ◌++◌, length}
 use Rattle.field.specs.FiniteField.{FiniteField}
+use Rattle.field.specs.Rows.{Agree}
 use Rattle.series.specs.Words.{Word, Over}
+use Rattle.series.specs.WordOrders.{WordOrder}
 use Rattle.series.specs.Listing.{Count}
 use Rattle.series.specs.Spans.{Span}
 use Rattle.series.specs.Families.{Of, Dependent}
 use Rattle.series.specs.Tables.{Table, weight, pair}
 use Rattle.series.specs.Comparing.{Kept, Tried, Alike, LeastDifference}
 use Rattle.series.specs.Reducing.{Reduced}
+
+-- an order with the laws of a word order is this one
+abbrev pub OnlyOrder : (Word → Word → Type 0) → Type 0
+OnlyOrder This = (before : Word → Word → Bool) → WordOrder (λ u v. IsTrue (before u v)) → (u v : Word) → IsTrue (before u v) ↔ This u v
 
 module _ {V : Type 0} (K : FiniteField V) where
   -- a table made of two weighs every word as `op` makes it of their weights
@@ -30,6 +36,14 @@ module _ {V : Type 0} (K : FiniteField V) where
   -- what is known, such as that it is decidable, of a vector with d entries being a combination of n others
   abbrev pub CombinationKnown : (Type 0 → Type 0) → Type 0
   CombinationKnown Known = (d n : ℕ) (xs : ℕ → ℕ → V) (y : ℕ → V) → Known (Span K (λ i. i < d) (Of n xs) y)
+
+  -- the pair row of a word and one letter more is what `step` makes of the word's pair row
+  abbrev pub PairSteps : (Table V → Table V → ℕ → (ℕ → V) → ℕ → V) → Type 0
+  PairSteps step = (S T : Table V) (w : Word) (a : ℕ) → Agree (S.states + T.states) (pair K S T (w ++ a ∷ [])) (step S T a (pair K S T w))
+
+  -- what `outcome` makes of a word's pair row is the word's weight under one of the two tables
+  abbrev pub PairWeighs : (Table V → Table V → (ℕ → V) → V) → (Table V → Table V → Table V) → Type 0
+  PairWeighs outcome one = (S T : Table V) (w : Word) → outcome S T (pair K S T w) ≡ weight K (one S T) w
 
   -- where the word that is made of two is kept, the first of them is
   abbrev pub KeptPart : (Word → Word → Word) → Type 0

@@ -16,8 +16,8 @@ Smaller [] v = ⊥
 Smaller (a ∷ u) [] = ⊥
 Smaller (a ∷ u) (b ∷ v) = (a < b) ⊎ ((a ≡ b) × Smaller u v)
 
--- shortlex: the shorter word first, and of two as long the one with the smaller letter where they first differ. Its definition stays shut, so that
--- the theory rests on the laws of WordOrders alone, and another order with these laws can take its place.
+-- shortlex: the shorter word first, and of two as long the one with the smaller letter where they first differ. Its definition stays
+-- shut, so that the theory rests on the laws of WordOrders, which no other order has.
 infix 50 ◌≺◌
 unfoldable pub ◌≺◌ : Word → Word → Type 0
 u ≺ v = (length u < length v) ⊎ ((length u ≡ length v) × Smaller u v)

@@ -5,11 +5,11 @@
 ghost use Rattle.std.specs.Prelude.{◌≡◌, ℕ, ◌+◌, ◌*◌, ◌<◌, ◌≤◌, ◌⊎◌, ◌∷◌, ◌++◌, reverse};
 ghost use Rattle.series.specs.Words.{◌≺◌};
 ghost use Rattle.series.specs.WordOrders.{WordOrder};
-ghost use Rattle.series.specs.Tables.{SameTable};
+ghost use Rattle.series.specs.Tables.{SameTable, pair_step, left_outcome, right_outcome};
 ghost use Rattle.series.specs.Comparing.{Kept, LeastDifference};
 ghost use Rattle.series.specs.Operations.{sum_table, scaled_table, product_table, after_table, turned_table};
-ghost use Rattle.series.specs.Theorems.{Combines, Maps, Rereads, DependWhere, CombinationKnown};
-ghost use Rattle.series.specs.Theorems.{KeptPart, KeptSpan, KeptShorter, KeptNumber, WordsDecide};
+ghost use Rattle.series.specs.Theorems.{Combines, Maps, Rereads, DependWhere, CombinationKnown, OnlyOrder};
+ghost use Rattle.series.specs.Theorems.{PairSteps, PairWeighs, KeptPart, KeptSpan, KeptShorter, KeptNumber, WordsDecide};
 ghost use Rattle.series.specs.Theorems.{DifferenceHasLeast, LeastDifferenceShorter, AlikeOr, TriedNumber, SameWeights};
 ghost use Rattle.series.specs.Theorems.{ReducedWeights, ReducedStates, ReducedCanonical, ReducedExists};
 
@@ -33,6 +33,14 @@ pub fn many_vectors_depend<F: Field>()
 /// Whether a vector is a combination of finitely many others is decidable.
 pub fn combinations_are_decidable<F: Field>()
     ensures decidable { CombinationKnown F.field (λ A. Dec A) }
+{}
+
+/// The pair row of a word and one letter more is the word's pair row times the letter's two matrices, and the outcomes of a
+/// word's pair row are its weights.
+pub fn pair_rows_step_and_weigh<F: Field>()
+    ensures step { PairSteps F.field (pair_step F.field) }
+    ensures left { PairWeighs F.field (left_outcome F.field) (λ S T. S) }
+    ensures right { PairWeighs F.field (right_outcome F.field) (λ S T. T) }
 {}
 
 /// A prefix of a kept word is kept.
@@ -102,7 +110,8 @@ pub fn reduced_form_exists<F: Field>()
     ensures exists { ReducedExists F.field (λ T. T.letters) }
 {}
 
-/// Shortlex has the laws of a word order.
+/// Shortlex has the laws of a word order, and no other order has them.
 pub fn shortlex_is_a_word_order()
     ensures laws { WordOrder ◌≺◌ }
+    ensures no_other { OnlyOrder ◌≺◌ }
 {}

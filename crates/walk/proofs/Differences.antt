@@ -25,7 +25,7 @@ module _ {V : Type 0} (K : FiniteField V) (S T : Table V) where
 
   -- the kept word i with the letter a differs, and no kept word before it does
   pub longer_difference : (count : ℕ) (words : ℕ → Word) (i a left right : ℕ) → count ≤ S.states + T.states → i < count → 1 ≤ a → a ≤ S.letters → Scanned (Kept K S T) count words (words i ++ a ∷ [])
-      → ((i : ℕ) → i < count → weight K S (words i) ≡ weight K T (words i)) → Unlike K S T (words i ++ a ∷ []) left right
+      → ((i : ℕ) → i < count → weight K S (words i) ≡ weight K T (words i)) → Unlike K (weight K S (words i ++ a ∷ [])) (weight K T (words i ++ a ∷ [])) left right
       → FirstDifference K S T (words i ++ a ∷ []) (1 + i * S.letters + a) left right
   longer_difference count words i a left right few inside low high s alike u =
       let o = push_over (words i) a (s.good i inside) low high in
@@ -38,7 +38,7 @@ module _ {V : Type 0} (K : FiniteField V) (S T : Table V) where
         few_tried = omega (arith, mul-le (i + 1) S.letters (S.states + T.states) S.letters (omega arith) (omega arith), mul_comm S.letters (S.states + T.states));
       }
 
-  pub empty_difference : (left right : ℕ) → Unlike K S T [] left right → FirstDifference K S T [] 1 left right
+  pub empty_difference : (left right : ℕ) → Unlike K (weight K S []) (weight K T []) left right → FirstDifference K S T [] 1 left right
   empty_difference left right u =
       record {
         difference = record { over = tt; differs = u.differs; least = λ w h. absurd (none_before w h) };

@@ -34,7 +34,7 @@ pub struct Weights {
 }
 
 impl<'a, F: Field> Pair<'a, F> {
-    ghost use Rattle.walk.specs.Pairs.{width, PairRow, OneLetterMore, ComparesWeights};
+    ghost use Rattle.walk.specs.Pairs.{width, PairRow, Steps, ComparesOutcomes};
 
     /// How long a pair row is.
     pub(crate) fn width(self) -> usize
@@ -55,12 +55,13 @@ impl<'a, F: Field> Pair<'a, F> {
         right.copy_from_slice(self.right.start());
     }
 
-    /// Writes to `to`, from the pair row of a word, that of the word and one letter more.
+    /// Writes to `to` the row times the two matrices of the letter, each part times that of its table: of the pair row of a
+    /// word, that of the word and one letter more.
     pub fn step_row(self, row: &[F], letter: usize, to: &mut [F])
         requires row_as_long { length row.now ≡ width self }
         requires as_long { length to.old ≡ width self }
         requires letter_of_tables { (1 ≤ letter) × (letter ≤ self.left.shape.letters) }
-        ensures pair_row_of_longer_word { OneLetterMore F.field F.value self.entry letter row.now to.new }
+        ensures one_letter_further { Steps F.field F.value self.entry letter row.now to.new }
     {
         let n = self.left.states();
         let (left, right) = row.split_at(n);
@@ -69,10 +70,11 @@ impl<'a, F: Field> Pair<'a, F> {
         row_times_matrix(right, self.right.matrix(letter), to_right);
     }
 
-    /// The codes of the two weights of the word that has this pair row, if the weights are not the same.
+    /// The codes of the row's outcomes, each part of it times the end column of its table, if they are not the same. The outcomes
+    /// of the pair row of a word are its weights.
     pub fn difference(self, row: &[F]) -> Option<Weights>
         requires row_as_long { length row.now ≡ width self }
-        ensures compares_weights { ComparesWeights F.field F.value self.entry row.now result }
+        ensures compares_outcomes { ComparesOutcomes F.field F.value self.entry row.now result }
     {
         let (left, right) = row.split_at(self.left.states());
         let left = dot(left, self.left.end(), 0, 1);

@@ -1,7 +1,9 @@
 use mathlib.Core.Bool.{false≢true}
-use Rattle.std.proofs.Common.{refl, sym, ap, ◌∙◌, arith}
+use Rattle.std.proofs.Common.{◌≡◌, refl, sym, ap, ◌∙◌, arith}
+use Rattle.field.specs.Rows.{at}
+use Rattle.series.specs.Tables.{left_outcome, right_outcome}
 use Rattle.walk.specs.Pairs.{left_table, right_table}
-use Rattle.walk.proofs.PairRows.{split_parts, left_weighed, right_weighed}
+use Rattle.walk.proofs.PairRows.{split_parts, left_result, right_result}
 use Rattle.walk.proofs.pairs.Pair.difference.Goals as goal
 
 pub returns-then-same : goal.returns-then-same
@@ -12,12 +14,9 @@ returns-then-same g c =
     let xs = c.args.row.now in
     let s = c.split_at in
     let parts = split_parts xs s.result.0.now s.result.1.now c.states.result s.ensures.front s.ensures.back in
-    record {
-      compares_weights = λ u e.
-          sym (c.dot-left.ensures.is_dot_product ∙ left_weighed K v S T u xs s.result.0.now s.result.1.now parts (omega arith) e c.end.result.now c.end.ensures.end_column)
-          ∙ c.if-same.ensures.decides_equality.0 refl
-          ∙ c.dot-right.ensures.is_dot_product ∙ right_weighed K v S T u xs s.result.0.now s.result.1.now parts (omega arith) e (omega arith) c.end-2.result.now c.end-2.ensures.end_column;
-    }
+    let left : v c.dot-left.result ≡ left_outcome K S T (at K v xs) = c.dot-left.ensures.is_dot_product ∙ left_result K v S T xs s.result.0.now s.result.1.now parts (omega arith) c.end.result.now c.end.ensures.end_column in
+    let right : v c.dot-right.result ≡ right_outcome K S T (at K v xs) = c.dot-right.ensures.is_dot_product ∙ right_result K v S T xs s.result.0.now s.result.1.now parts (omega arith) (omega arith) c.end-2.result.now c.end-2.ensures.end_column in
+    record { compares_outcomes = sym left ∙ c.if-same.ensures.decides_equality.0 refl ∙ right }
 
 pub returns : goal.returns
 returns g c =
@@ -27,13 +26,12 @@ returns g c =
     let xs = c.args.row.now in
     let s = c.split_at in
     let parts = split_parts xs s.result.0.now s.result.1.now c.states.result s.ensures.front s.ensures.back in
+    let left : v c.dot-left.result ≡ left_outcome K S T (at K v xs) = c.dot-left.ensures.is_dot_product ∙ left_result K v S T xs s.result.0.now s.result.1.now parts (omega arith) c.end.result.now c.end.ensures.end_column in
+    let right : v c.dot-right.result ≡ right_outcome K S T (at K v xs) = c.dot-right.ensures.is_dot_product ∙ right_result K v S T xs s.result.0.now s.result.1.now parts (omega arith) (omega arith) c.end-2.result.now c.end-2.ensures.end_column in
     record {
-      compares_weights = λ u e.
-          let left = c.dot-left.ensures.is_dot_product ∙ left_weighed K v S T u xs s.result.0.now s.result.1.now parts (omega arith) e c.end.result.now c.end.ensures.end_column in
-          let right = c.dot-right.ensures.is_dot_product ∙ right_weighed K v S T u xs s.result.0.now s.result.1.now parts (omega arith) e (omega arith) c.end-2.result.now c.end-2.ensures.end_column in
-          record {
-            differs = λ z. false≢true (c.if-same.ensures.decides_equality.1 (left ∙ z ∙ sym right));
-            left_is = c.code.ensures.is_code ∙ ap K.code left;
-            right_is = c.code-2.ensures.is_code ∙ ap K.code right;
-          };
+      compares_outcomes = record {
+        differs = λ z. false≢true (c.if-same.ensures.decides_equality.1 (left ∙ z ∙ sym right));
+        left_is = c.code.ensures.is_code ∙ ap K.code left;
+        right_is = c.code-2.ensures.is_code ∙ ap K.code right;
+      };
     }
