@@ -33,7 +33,7 @@ use Rattle.book.proofs.Staying.{Stays, stays_table, stands_range, untouched_stay
 
 module _ {V : Type 0} (K : FiniteField V) (S T : Table V) where
   -- what the verdict record says is what the law has it report
-  says_reports : (v : Verdict) → Says K S T v → Reports K ◌+◌ S T v
+  says_reports : (v : Verdict) → Says K S T v → Reports K S T v
   says_reports v (inl a) = record {
     kinds = inl a.kind;
     exactly = (λ e. absurd (omega (arith, a.kind)), λ w. absurd (w.2 (a.alike w.0 w.1)));
@@ -118,7 +118,7 @@ module _ {V : Type 0} (K : FiniteField V) {F : Type 0} (value : F → V) (told_a
       (λ w o. let o' : Over R.letters w = subst (λ m. Over m w) (sym (form_letters R c)) o in sym (form_weight R c w o') ∙ e w o' ∙ form_weight S d w (subst (λ m. Over m w) l o')))
       (same_sym S d.R₀ d.same))
 
-  smallest : (R : Table V) → Reduces K value R → Smallest K value ◌≤◌ R
+  smallest : (R : Table V) → Reduces K value R → Smallest K value R
   smallest R r = record {
     reduces = r;
     fewest = λ T l e. form_fewest R (form_of R r) T e;
@@ -132,7 +132,7 @@ module _ {V : Type 0} (K : FiniteField V) {F : Type 0} (value : F → V) (told_a
     matches : (B : List (Page V)) → Book K cs os B → (p : ℕ) → Matches K (entry s p) (page K B p) (table K value s p)
     matches B f p = good_matches s.memory (begins p) (entry s p) (page K B p) (anywhere K value s B (stands B f) p)
 
-    follows : Follows K value ◌+◌ cs os s u
+    follows : Follows K value cs os s u
     follows =
         let b = use_booked K value u.uses in
         record {
@@ -149,8 +149,8 @@ module _ {V : Type 0} (K : FiniteField V) {F : Type 0} (value : F → V) (told_a
           compares = λ l p q a t d.
               let x = d.1 in
               let e : t.lent.verdict ≡ x.0 = ap (λ z. z.verdict) x.3.lent in
-              (x.2 ∙ ap Told (sym e), subst (Reports K ◌+◌ (table K value s p) (table K value s q)) (sym e) (says_reports K (table K value s p) (table K value s q) x.0 x.1));
-          lies_on = λ p t h. let r = untouched_stays K value told_apart p s t h cs os u in (r.entry_same, r.same);
+              record { told = x.2 ∙ ap Told (sym e); reports = subst (Reports K (table K value s p) (table K value s q)) (sym e) (says_reports K (table K value s p) (table K value s q) x.0 x.1) };
+          lies_on = λ p t h. let r = untouched_stays K value told_apart p s t h cs os u in record { entry_same = r.entry_same; elements = r.same };
         }
 
   module _ (cs : List Call) (os : List Outcome) (s : Shelf F) (u : Opening K value cs os s) where
@@ -164,13 +164,13 @@ module _ {V : Type 0} (K : FiniteField V) {F : Type 0} (value : F → V) (told_a
     abbrev until : (i : ℕ) → i ≤ length cs → Opening K value (take i cs) (take i os) (passed i)
     until i l = record { first = u.first; opened = u.opened; uses = came i l }
 
-    follows_until : (i : ℕ) (l : i ≤ length cs) → Follows K value ◌+◌ (take i cs) (take i os) (passed i) (until i l)
+    follows_until : (i : ℕ) (l : i ≤ length cs) → Follows K value (take i cs) (take i os) (passed i) (until i l)
     follows_until i l = follows (take i cs) (take i os) (passed i) (until i l)
 
     within : (i : ℕ) (c : Call) → slice_get cs i ≡ Some c → i ≤ length cs
     within i c e = let l = slice_get_within cs i c e in omega arith
 
-    throughout : FollowsThroughout K value ◌+◌ ◌≤◌ cs os s u
+    throughout : FollowsThroughout K value cs os s u
     throughout =
         let r : Course K value u.first cs os s passed = use_course K value u.uses in
         record {
@@ -185,7 +185,7 @@ module _ {V : Type 0} (K : FiniteField V) {F : Type 0} (value : F → V) (told_a
           compared = λ i p q a e f.
               let d = r.calls i (compare p q) (Ok a) e f in
               let x = (follows_until i (within i (compare p q) e)).compares d.lent p q a d.left d.does in
-              (d.left.lent.verdict, x.0, x.1);
+              (d.left.lent.verdict, x);
           untouched = λ p i j low high h. untouched_to K value u.first s cs os passed r p i j low high h;
           reduced = λ i j p to a low high e f h.
               let d = r.calls i (reduce p to) (Ok a) e f in
@@ -206,7 +206,7 @@ module _ {V : Type 0} (K : FiniteField V) {F : Type 0} (value : F → V) (told_a
               });
         }
 
-  pub lawful : UsesFollowTheBook K value ◌+◌ ◌≤◌
+  pub lawful : UsesFollowTheBook K value
   lawful = record {
     every_use = follows;
     throughout = throughout;

@@ -162,7 +162,7 @@ module _ {V : Type 0} (K : FiniteField V) {F : Type 0} (value : F → V) (told_a
       let v = one (given m r) (given z.s r) u z.u (given_same m z.s r w.1) (call_in r) o z.o d z.does in
       (ap₂ (λ a b. a ++ b ∷ []) w.0 v.0 ∙ sym z.outcomes, subst (SameState K value (taken_back m r u)) (sym z.left) (back_same m z.s u z.u r w.1 v.1))
 
-  pub settled : OutcomesAreSettled K value 8
+  pub settled : OutcomesAreSettled K value
   settled = record {
     one = λ s s' t t' c o o' e. one s s' t t' e c o o';
     others = others;

@@ -1,5 +1,5 @@
 -- What the calls of packing did, put together. Assumes nothing.
-use Rattle.std.proofs.Common.{◌≡◌, ℕ, ◌≤◌, ◌≢◌, List, map, length, replicate, Err, Result, sym, refl, ap, ◌∙◌, subst, inl, inr, arith, MatchResult, Ok}
+use Rattle.std.proofs.Common.{◌≡◌, ℕ, ◌≤◌, ◌≢◌, List, length, replicate, Err, Result, sym, refl, ap, ◌∙◌, subst, inl, inr, arith, MatchResult, Ok}
 use Rattle.field.specs.FiniteField.{FiniteField}
 use Rattle.series.specs.Words.{Word, Over}
 use Rattle.series.specs.Tables.{Table, weight, SameTable}
@@ -24,8 +24,7 @@ use Rattle.book.specs.declared.outcome.Answer.TheVariants.{Done, Code, Told, Cou
 use Rattle.book.proofs.Places.{at_same, at_other, length_with}
 use Rattle.text.proofs.Limits.{block_fits}
 use Rattle.book.proofs.Blocks.{same_sym, same_trans, same_by_values}
-use Rattle.shelf.specs.Views.{entry_of, shelf_of, state}
-use Rattle.shelf.specs.declared.entry.Entry.{Entry as EntryCode}
+use Rattle.shelf.specs.Views.{shelf_of, state}
 use Rattle.packing.specs.Packing.{Reduction, Packs, Hindered}
 use Rattle.packing.proofs.Same.{text_same, reduced_table}
 use Rattle.packing.proofs.Hindrances.{first, second, memory_enough, work_enough, room_enough, never_reduce, never_compare, write_hindered}
@@ -47,8 +46,8 @@ Full (filled n k) = Unit {0}
 not_empty : (e : Entry) (n k : ℕ) → e ≡ filled n k → e ≢ empty
 not_empty e n k a b = subst Full (sym a ∙ b) tt
 
-module _ {V : Type 0} (K : FiniteField V) {F : Type 0} (value : F → V) (text : List ℕ) (es es₁ : List EntryCode) (mem mem₁ : List F) (w w₁ : ℕ) (out : List ℕ) (v : Verdict)
-    (opened : map entry_of es ≡ replicate 8 empty) (loaded : Does K value (state es mem w out v) (load text 1) (Ok Done) (state es₁ mem₁ w₁ out v)) where
+module _ {V : Type 0} (K : FiniteField V) {F : Type 0} (value : F → V) (text : List ℕ) (es es₁ : List Entry) (mem mem₁ : List F) (w w₁ : ℕ) (out : List ℕ) (v : Verdict)
+    (opened : es ≡ replicate 8 empty) (loaded : Does K value (state es mem w out v) (load text 1) (Ok Done) (state es₁ mem₁ w₁ out v)) where
   -- the table of the text
   abbrev T₀ : Table V
   T₀ = loaded.1.1.0
@@ -71,23 +70,23 @@ module _ {V : Type 0} (K : FiniteField V) {F : Type 0} (value : F → V) (text :
   working₁ : 8192 ≤ w₁
   working₁ = subst (λ n. 8192 ≤ n) (sym (ap (λ l. l.work) making.lent)) working
 
-  eight : length (map entry_of es) ≡ 8
+  eight : length es ≡ 8
   eight = ap length opened
 
-  eight₁ : length (map entry_of es₁) ≡ 8
-  eight₁ = ap length making.entries ∙ length_with (map entry_of es) 1 (filled T₀.states T₀.letters) ∙ eight
+  eight₁ : length es₁ ≡ 8
+  eight₁ = ap length making.entries ∙ length_with es 1 (filled T₀.states T₀.letters) ∙ eight
 
-  entry_1 : at_place empty (map entry_of es₁) 1 ≡ filled T₀.states T₀.letters
-  entry_1 = ap (λ z. at_place empty z 1) making.entries ∙ at_same empty (map entry_of es) 1 (filled T₀.states T₀.letters) first eight
+  entry_1 : at_place empty es₁ 1 ≡ filled T₀.states T₀.letters
+  entry_1 = ap (λ z. at_place empty z 1) making.entries ∙ at_same empty es 1 (filled T₀.states T₀.letters) first eight
 
   loaded_same : SameTable (table K value (shelf_of es₁ mem₁) 1) T₀
   loaded_same = subst (λ e. SameTable (table_at K value mem₁ 0 (states_of e) (letters_of e)) T₀) (sym entry_1) making.numbers.same
 
   -- what was loaded can be reduced
   pub reduces_then : (r : Refusal) → Refuses K (state es₁ mem₁ w₁ out v) (reduce 1 2) r → ⊥
-  reduces_then r h = never_reduce K (state es₁ mem₁ w₁ out v) memory₁ working₁ (not_empty (at_place empty (map entry_of es₁) 1) T₀.states T₀.letters entry_1) r h.meets
+  reduces_then r h = never_reduce K (state es₁ mem₁ w₁ out v) memory₁ working₁ (not_empty (at_place empty es₁ 1) T₀.states T₀.letters entry_1) r h.meets
 
-  module _ (es₂ : List EntryCode) (mem₂ : List F) (w₂ : ℕ) (reduces : Does K value (state es₁ mem₁ w₁ out v) (reduce 1 2) (Ok Done) (state es₂ mem₂ w₂ out v)) where
+  module _ (es₂ : List Entry) (mem₂ : List F) (w₂ : ℕ) (reduces : Does K value (state es₁ mem₁ w₁ out v) (reduce 1 2) (Ok Done) (state es₂ mem₂ w₂ out v)) where
     -- the table that reduce made
     abbrev R₀ : Table V
     R₀ = reduces.1.1.0
@@ -102,11 +101,11 @@ module _ {V : Type 0} (K : FiniteField V) {F : Type 0} (value : F → V) (text :
     abbrev R : Table V
     R = table K value (shelf_of es₂ mem₂) 2
 
-    entry_1_still : at_place empty (map entry_of es₂) 1 ≡ filled T₀.states T₀.letters
-    entry_1_still = ap (λ z. at_place empty z 1) reducing.entries ∙ at_other empty (map entry_of es₁) 2 1 (filled R₀.states R₀.letters) (λ e. absurd (omega arith)) ∙ entry_1
+    entry_1_still : at_place empty es₂ 1 ≡ filled T₀.states T₀.letters
+    entry_1_still = ap (λ z. at_place empty z 1) reducing.entries ∙ at_other empty es₁ 2 1 (filled R₀.states R₀.letters) (λ e. absurd (omega arith)) ∙ entry_1
 
-    entry_2 : at_place empty (map entry_of es₂) 2 ≡ filled R₀.states R₀.letters
-    entry_2 = ap (λ z. at_place empty z 2) reducing.entries ∙ at_same empty (map entry_of es₁) 2 (filled R₀.states R₀.letters) second eight₁
+    entry_2 : at_place empty es₂ 2 ≡ filled R₀.states R₀.letters
+    entry_2 = ap (λ z. at_place empty z 2) reducing.entries ∙ at_same empty es₁ 2 (filled R₀.states R₀.letters) second eight₁
 
     -- reducing leaves the table of the text in place
     stays : SameTable (table_at K value mem₂ 0 T₀.states T₀.letters) (table_at K value mem₁ 0 T₀.states T₀.letters)
@@ -120,12 +119,12 @@ module _ {V : Type 0} (K : FiniteField V) {F : Type 0} (value : F → V) (text :
     RSame = subst (λ e. SameTable (table_at K value mem₂ 1568 (states_of e) (letters_of e)) R₀) (sym entry_2) reducing.numbers.same
 
     -- the table that was loaded and the one that lies there in the end weigh every word alike
-    TWeighs : (u : Word) → Over (letters_of (at_place empty (map entry_of es₁) 1)) u → weight K (table K value (shelf_of es₁ mem₁) 1) u ≡ weight K T u
+    TWeighs : (u : Word) → Over (letters_of (at_place empty es₁ 1)) u → weight K (table K value (shelf_of es₁ mem₁) 1) u ≡ weight K T u
     TWeighs u o = same_weight K (table K value (shelf_of es₁ mem₁) 1) T (same_trans (table K value (shelf_of es₁ mem₁) 1) T₀ T loaded_same (same_sym T T₀ TSame)) u o
 
     TReduced : Reduced K T.letters (weight K T) R
     TReduced = reduced_table K T.letters (weight K T) R₀ R (same_sym R R₀ RSame)
-        (subst (λ k. Reduced K k (weight K T) R₀) (ap letters_of (entry_1 ∙ sym entry_1_still)) (reduced_alike K (letters_of (at_place empty (map entry_of es₁) 1)) (weight K (table K value (shelf_of es₁ mem₁) 1)) (weight K T) R₀ TWeighs reduces.1.1.1))
+        (subst (λ k. Reduced K k (weight K T) R₀) (ap letters_of (entry_1 ∙ sym entry_1_still)) (reduced_alike K (letters_of (at_place empty es₁ 1)) (weight K (table K value (shelf_of es₁ mem₁) 1)) (weight K T) R₀ TWeighs reduces.1.1.1))
 
     abbrev reduction : Reduction K value text mem mem₂
     reduction = record {
@@ -152,13 +151,13 @@ module _ {V : Type 0} (K : FiniteField V) {F : Type 0} (value : F → V) (text :
     memory₂ : 12544 ≤ length mem₂
     memory₂ = omega (arith, memory₁, reducing.numbers.frame.len)
 
-    full_2 : at_place empty (map entry_of es₂) 2 ≢ empty
-    full_2 = not_empty (at_place empty (map entry_of es₂) 2) R₀.states R₀.letters entry_2
+    full_2 : at_place empty es₂ 2 ≢ empty
+    full_2 = not_empty (at_place empty es₂ 2) R₀.states R₀.letters entry_2
 
     -- what was reduced can be compared
     pub compares_then : (r : Refusal) → Refuses K (state es₂ mem₂ w₂ out v) (compare 1 2) r → ⊥
     compares_then r h = never_compare K (state es₂ mem₂ w₂ out v) memory₂ (subst (λ n. 8192 ≤ n) (sym (ap (λ l. l.work) reducing.lent)) working₁)
-        (not_empty (at_place empty (map entry_of es₂) 1) T₀.states T₀.letters entry_1_still) full_2 (sym TReduced.letters) r h.meets
+        (not_empty (at_place empty es₂ 1) T₀.states T₀.letters entry_1_still) full_2 (sym TReduced.letters) r h.meets
 
     -- and is written, unless there is no room for it
     pub writes_then : (w₃ : ℕ) (v' : Verdict) (r : Refusal) → Refuses K (state es₂ mem₂ w₃ out v') (write 2) r → Hindered K value text w (length out) mem mem₂ r
@@ -173,7 +172,7 @@ module _ {V : Type 0} (K : FiniteField V) {F : Type 0} (value : F → V) (text :
 
     module _ (w₃ : ℕ) (v' : Verdict) (compares : Does K value (state es₂ mem₂ w₂ out v) (compare 1 2) (Ok (Told v')) (state es₂ mem₂ w₃ out v')) (n : ℕ) (out' : List ℕ)
         (writes : Does K value (state es₂ mem₂ w₃ out v') (write 2) (Ok (Count n)) (state es₂ mem₂ w₃ out' v')) where
-      pub packs : (before after : ℕ) → before ≡ states_of (at_place empty (map entry_of es₂) 1) → after ≡ states_of (at_place empty (map entry_of es₂) 2) → Packs K value text w mem mem₂ out out' (record { before = before; after = after; bytes = n; verdict = v' })
+      pub packs : (before after : ℕ) → before ≡ states_of (at_place empty es₂ 1) → after ≡ states_of (at_place empty es₂ 2) → Packs K value text w mem mem₂ out out' (record { before = before; after = after; bytes = n; verdict = v' })
       packs before after b a = record {
         memory_enough = memory;
         work_enough = working;

@@ -3,7 +3,6 @@
 
 ghost use Rattle.std.specs.Prelude.{◌≡◌, map, length, MatchResult};
 ghost use Rattle.book.specs.Shelves.{at_place, empty, states_of};
-ghost use Rattle.shelf.specs.Views.{entry_of};
 ghost use Rattle.packing.specs.Packing.{Packs, Hindered};
 
 use crate::packed::Packed;
@@ -18,7 +17,7 @@ pub mod packed;
 // How many states the table of a place has, 0 where there is none: no `Option`, since that is the book's `states_of`, by which
 // `Packed` tells its numbers.
 fn states(directory: &Directory, place: usize) -> usize
-    ensures told { result ≡ states_of (at_place empty (map entry_of directory.now.entries) place) }
+    ensures told { result ≡ states_of (at_place empty directory.now place) }
 {
     directory.shape(place).map_or(0, Shape::states)
 }

@@ -36,7 +36,7 @@ pub fn make<F: Field>(
     call: Call<&[u8]>,
     given: Given,
 ) -> Outcome
-    ensures runs { Makes F.field F.value (state directory.old.entries shelf.old (length work.old) output.old unwritten) (record { call = call.entry; work = given.work; output = given.output }) result (shelf_of directory.new.entries shelf.new) output.new }
+    ensures runs { Makes F.field F.value (state directory.old shelf.old (length work.old) output.old unwritten) (record { call = call.entry; work = given.work; output = given.output }) result (shelf_of directory.new shelf.new) output.new }
 {
     let mut verdict = Verdict::blank();
     let request = Request {

@@ -1,7 +1,7 @@
 -- What clear does with the entries is what the call does, with any memory. Assumes nothing.
-use Rattle.std.proofs.Common.{◌≡◌, ℕ, List, map, Ok, Err, Result, sym, refl, ap, subst, inl, inr, arith}
+use Rattle.std.proofs.Common.{◌≡◌, ℕ, List, Ok, Err, Result, sym, refl, ap, subst, inl, inr, arith}
 use Rattle.field.specs.FiniteField.{FiniteField}
-use Rattle.book.specs.Shelves.{State, Place, entry, empty}
+use Rattle.book.specs.Shelves.{Entry, State, Place, entry, empty}
 use Rattle.book.specs.Calls.{clear, Names}
 use Rattle.book.specs.Refusing.{outside, vacant, Refuses}
 use Rattle.book.specs.Doing.{Does}
@@ -9,12 +9,11 @@ use Rattle.book.specs.declared.refusal.Refusal.{Refusal}
 use Rattle.book.specs.declared.refusal.Refusal.TheVariants.{PlaceOutside, PlaceEmpty}
 use Rattle.book.specs.declared.outcome.Answer.TheVariants.{Done}
 use Rattle.book.proofs.Checks.{Passed, passed_0, passed_1, passed_2, passed_3, passed_4, refused_at}
-use Rattle.shelf.specs.Views.{entry_of, state, outcome_by}
+use Rattle.shelf.specs.Views.{state, outcome_by}
 use Rattle.shelf.specs.Clearing.{Clears}
 use Rattle.shelf.proofs.Gating.{of_one}
 use Rattle.shelf.proofs.Late.{clear_accepts}
 use Rattle.book.specs.declared.verdict.Verdict.{Verdict}
-use Rattle.shelf.specs.declared.entry.Entry.{Entry as EntryCode}
 
 module _ {V : Type 0} (K : FiniteField V) {F : Type 0} (s : State F) (p : ℕ) where
   past_3 : Place p → Passed K s (clear p) 3
@@ -24,7 +23,7 @@ module _ {V : Type 0} (K : FiniteField V) {F : Type 0} (s : State F) (p : ℕ) w
       named q (inl m) = of_one Place l q m
       named q (inr m) = of_one Place l q m
 
-pub clear_does : {V : Type 0} (K : FiniteField V) {F : Type 0} (v : F → V) (es es' : List EntryCode) (mem : List F) (w : ℕ) (out : List ℕ) (verdict : Verdict) (p : ℕ) {T : Type 0} (r : Result T Refusal) → Clears (map entry_of es) p r (map entry_of es')
+pub clear_does : {V : Type 0} (K : FiniteField V) {F : Type 0} (v : F → V) (es es' : List Entry) (mem : List F) (w : ℕ) (out : List ℕ) (verdict : Verdict) (p : ℕ) {T : Type 0} (r : Result T Refusal) → Clears es p r es'
     → Does K v (state es mem w out verdict) (clear p) (outcome_by (λ _. Done) r) (state es' mem w out verdict)
 clear_does K v es es' mem w out verdict p (Ok u) (l, full, left) = (clear_accepts K (state es mem w out verdict) p (passed_4 K (state es mem w out verdict) (clear p) (past_3 K (state es mem w out verdict) p l) (of_one (λ q. entry (state es mem w out verdict).shelf q ≡ empty → ⊥) full)), (refl, record { entries = left; memory = refl; lent = refl }))
 clear_does K v es es' mem w out verdict p (Err f) (inl (e, u), left) = (

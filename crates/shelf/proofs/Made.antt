@@ -1,5 +1,5 @@
 -- A table that is built in work memory and copied to its place. Assumes nothing.
-use Rattle.std.proofs.Common.{◌≡◌, ℕ, List, map, length, Result, sym, refl, ap, ap₂, ◌∙◌, subst, subst₂}
+use Rattle.std.proofs.Common.{◌≡◌, ℕ, List, length, Result, sym, refl, ap, ap₂, ◌∙◌, subst, subst₂}
 use Rattle.std.specs.Result.{IsErrAnd}
 use Rattle.std.proofs.lemmas.Result.{err_from_is_err_and}
 use Rattle.field.specs.FiniteField.{FiniteField}
@@ -8,7 +8,7 @@ use Rattle.rows.specs.Layout.{table_at}
 use Rattle.rows.specs.Seen.{table_of, HoldsTable}
 use Rattle.rows.specs.declared.table.Shape.{Shape}
 use Rattle.rows.specs.declared.table.TableRef.{TableRef}
-use Rattle.book.specs.Shelves.{Lent, State, begins, states_of, letters_of, table}
+use Rattle.book.specs.Shelves.{Entry, Lent, State, begins, states_of, letters_of, table}
 use Rattle.book.specs.Calls.{Call}
 use Rattle.book.specs.Refusing.{Refuses}
 use Rattle.book.specs.Doing.{Makes, Does}
@@ -16,16 +16,15 @@ use Rattle.book.specs.Using.{lending}
 use Rattle.book.specs.declared.refusal.Refusal.{Refusal}
 use Rattle.book.specs.declared.verdict.Verdict.{Verdict}
 use Rattle.book.specs.declared.outcome.Answer.{Answer}
-use Rattle.shelf.specs.Views.{entry_of, shelf_of, state, outcome_by}
+use Rattle.shelf.specs.Views.{shelf_of, state, outcome_by}
 use Rattle.shelf.specs.Checking.{Found}
-use Rattle.shelf.specs.declared.entry.Entry.{Entry as EntryCode}
 
 same_refl : {V : Type 0} (R : Table V) → SameTable R R
 same_refl R = record { states = refl; letters = refl; start = λ i l. refl; step = λ a low high i l j h. refl; end = λ i l. refl }
 
 module _ {V : Type 0} (K : FiniteField V) {F : Type 0} (v : F → V) where
   -- the table that is found at a place is the one that the shelf has there
-  pub table_found : (es : List EntryCode) (mem : List F) (p : ℕ) (t : TableRef F) → Found (map entry_of es) mem p t → table_of K v t ≡ table K v (shelf_of es mem) p
+  pub table_found : (es : List Entry) (mem : List F) (p : ℕ) (t : TableRef F) → Found es mem p t → table_of K v t ≡ table K v (shelf_of es mem) p
   table_found es mem p t f = ap₂ (λ m b. table_at K v m b t.shape.states t.shape.letters) f.in_memory f.begins_there ∙ ap (λ e. table_at K v mem (begins p) (states_of e) (letters_of e)) (sym f.told)
 
   -- a table seen at the front of a slice
@@ -41,7 +40,7 @@ module _ {V : Type 0} (K : FiniteField V) {F : Type 0} (v : F → V) where
   seen_held t xs z T e front n k h = subst (λ S. SameTable S T) (sym (table_in_front t xs z e front ∙ ap₂ (λ i j. table_at K v xs 0 i j) n k)) h.same
 
   -- built in work memory, copied, and told in the entry: made
-  pub made : (es es' : List EntryCode) (mem mem' work work' : List F) (to : ℕ) (M R R' : Table V) → SameTable M R → R ≡ R' → {at : ℕ} → at ≡ to
+  pub made : (es es' : List Entry) (mem mem' work work' : List F) (to : ℕ) (M R R' : Table V) → SameTable M R → R ≡ R' → {at : ℕ} → at ≡ to
       → ((l : Lent) (T : Table V) → SameTable M T → Makes K v (lending (shelf_of es mem) l) at T (lending (shelf_of es' mem') l))
       → length work' ≡ length work → (out : List ℕ) (verdict : Verdict) → Makes K v (state es mem (length work) out verdict) to R' (state es' mem' (length work') out verdict)
   made es es' mem mem' work work' to M R R' same e there kept l out verdict =
@@ -49,7 +48,7 @@ module _ {V : Type 0} (K : FiniteField V) {F : Type 0} (v : F → V) where
       (let lent : Lent = record { work = length work; output = out; verdict = verdict } in subst (λ p. Makes K v (lending (shelf_of es mem) lent) p R (lending (shelf_of es' mem') lent)) there (kept lent R same))
 
   -- the same of a table that a slice holds and that is seen there
-  pub made_held : (es es' : List EntryCode) (mem mem' work : List F) (work' : List F) (to : ℕ) (t : TableRef F) (xs : List F) (z : Shape) (R R' : Table V) → t.shape ≡ z → (t.memory.now ≡ xs) × (t.base ≡ 0) → z.states ≡ R.states → z.letters ≡ R.letters → HoldsTable K v R xs → R ≡ R' → {at : ℕ} → at ≡ to
+  pub made_held : (es es' : List Entry) (mem mem' work : List F) (work' : List F) (to : ℕ) (t : TableRef F) (xs : List F) (z : Shape) (R R' : Table V) → t.shape ≡ z → (t.memory.now ≡ xs) × (t.base ≡ 0) → z.states ≡ R.states → z.letters ≡ R.letters → HoldsTable K v R xs → R ≡ R' → {at : ℕ} → at ≡ to
       → ((l : Lent) (T : Table V) → SameTable (table_of K v t) T → Makes K v (lending (shelf_of es mem) l) at T (lending (shelf_of es' mem') l))
       → length work' ≡ length work → (out : List ℕ) (verdict : Verdict) → Makes K v (state es mem (length work) out verdict) to R' (state es' mem' (length work') out verdict)
   made_held es es' mem mem' work work' to t xs z R R' shape front n k held e there kept l out verdict =

@@ -26,7 +26,7 @@ run_more K v first s t rs os i d o l h run u =
     subst₂ (λ xs ys. Run K v first xs ys t) (sym (take_more rs i d l)) (sym (take_more_set os i o h))
     (subst (Run K v first (take i rs ++ get_or rs i d ∷ []) (take i os ++ o ∷ [])) (sym u.back) (next run (get_or rs i d) o u.left u.does))
 
-pub run_follows : {V : Type 0} (K : FiniteField V) {F : Type 0} (v : F → V) → UsesFollowTheBook K v (λ n m. n + m) (λ r t. r ≤ t) → (first t : State F) (rs : List Request) (os : List Outcome) → Run K v first rs os t → RunFollows K v (λ n m. n + m) (λ r t. r ≤ t) first rs os t
+pub run_follows : {V : Type 0} (K : FiniteField V) {F : Type 0} (v : F → V) → UsesFollowTheBook K v → (first t : State F) (rs : List Request) (os : List Outcome) → Run K v first rs os t → RunFollows K v first rs os t
 run_follows K v law first t rs os run opened =
     let u : Opening K v (map call_in rs) os t.shelf = record { first = first.shelf; opened = opened; uses = law.runs first t rs os run } in
     record { use_of = u; starts = refl; follows = law.every_use (map call_in rs) os t.shelf u; throughout = law.throughout (map call_in rs) os t.shelf u }

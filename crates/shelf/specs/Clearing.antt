@@ -1,23 +1,24 @@
 -- What clear does with the entries, which is all that it is handed. Assumes nothing.
-use Rattle.std.specs.Prelude.{◌≡◌, ℕ, ◌≢◌, ◌⊎◌, List, map, Ok, Err, Result}
+use Rattle.std.specs.Prelude.{◌≡◌, ℕ, ◌≢◌, ◌⊎◌, List, Ok, Err, Result}
 use Rattle.field.specs.FiniteField.{FiniteField}
 use Rattle.book.specs.Shelves.{Entry, empty, Place, at_place, with_place}
 use Rattle.book.specs.declared.refusal.Refusal.{Refusal}
 use Rattle.book.specs.declared.refusal.Refusal.TheVariants.{PlaceOutside, PlaceEmpty}
 use Rattle.book.specs.Calls.{Call}
-use Rattle.book.specs.Doing.{Does}
-use Rattle.book.specs.declared.verdict.Verdict.{Verdict}
-use Rattle.book.specs.declared.outcome.Answer.TheVariants.{Done}
-use Rattle.shelf.specs.Views.{entry_of, state, outcome_by}
-use Rattle.shelf.specs.declared.entry.Entry.{Entry as EntryCode}
+use Rattle.book.specs.Using.{lending}
+use Rattle.shelf.specs.Views.{shelf_of, outcome_of}
+use Rattle.shelf.specs.Performing.{Performs}
 
 -- the place is one of 1 to 8 and not empty, and now it is; or it is refused, and the entries are as before
 abbrev pub Clears : {T : Type 0} → List Entry → ℕ → Result T Refusal → List Entry → Type 0
 Clears entries p (Ok u) left = Place p × (at_place empty entries p ≢ empty) × (left ≡ with_place entries p empty)
-Clears entries p (Err f) left = (((f ≡ PlaceOutside) × (¬ (Place p))) ⊎ ((f ≡ PlaceEmpty) × Place p × (at_place empty entries p ≡ empty))) × (left ≡ entries)
+Clears entries p (Err f) left =
+    (((f ≡ PlaceOutside) × (¬ (Place p))) ⊎ ((f ≡ PlaceEmpty) × Place p × (at_place empty entries p ≡ empty)))
+    × (left ≡ entries)
 
 module _ {V : Type 0} (K : FiniteField V) {F : Type 0} (value : F → V) where
   -- that is what the call `called` of the place does, whatever lies in shelf memory and whatever is lent
   abbrev pub ClearsAsCalled : (ℕ → Call) → Type 0
-  ClearsAsCalled called = (entries left : List EntryCode) (memory : List F) (work : ℕ) (output : List ℕ) (verdict : Verdict) (p : ℕ) (r : Result (Unit {0}) Refusal) → Clears (map entry_of entries) p r (map entry_of left)
-      → Does K value (state entries memory work output verdict) (called p) (outcome_by (λ _. Done) r) (state left memory work output verdict)
+  ClearsAsCalled called =
+      (entries left : List Entry) (memory : List F) (p : ℕ) (r : Result (Unit {0}) Refusal) → Clears entries p r left
+      → Performs K value (called p) (outcome_of r) (lending (shelf_of entries memory)) (lending (shelf_of left memory))

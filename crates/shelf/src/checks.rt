@@ -1,11 +1,7 @@
 //! The checks that the calls on a shelf have in common, made in the order of their refusals.
-ghost use Rattle.std.specs.Prelude.{◌≡◌, ℕ, ◌<◌, ◌≤◌, ◌⊎◌, List, [], ◌∷◌, map, length, IfOk, MatchResult};
-ghost use Rattle.book.specs.Shelves.{at_place, empty};
-ghost use Rattle.book.specs.Calls.{Call};
-ghost use Rattle.book.specs.declared.refusal.Refusal.TheVariants.{MemoryShort, WorkShort, PlaceEmpty};
-ghost use Rattle.book.specs.declared.verdict.Verdict.{Verdict};
-ghost use Rattle.shelf.specs.Views.{entry_of, state};
-ghost use Rattle.shelf.specs.Checking.{Reads, Pairs, Checked, Found, FoundBoth, Room};
+ghost use Rattle.std.specs.Prelude.{◌≡◌, ◌≤◌, length, IfOk, IfErr, OnOk};
+ghost use Rattle.shelf.specs.Views.{work_state};
+ghost use Rattle.shelf.specs.Checking.{ChecksOne, ChecksTwo, Found, Vacant, FoundBoth, Room, Short};
 
 use crate::directory::Directory;
 use crate::memory::{SHELF, WORK};
@@ -18,7 +14,8 @@ use walk::pairs::Pair;
 /// Whether shelf memory and work memory have the elements that a call asks for.
 // A fact, not a type that lends both: calls read the one while they write the other, and promise of each what it holds.
 pub fn room(shelf: usize, work: usize) -> Result<(), Refusal>
-    ensures room_or_refused { MatchResult result (λ _. (12544 ≤ shelf) × (8192 ≤ work)) (λ f. ((f ≡ MemoryShort) × (shelf < 12544)) ⊎ ((f ≡ WorkShort) × (12544 ≤ shelf) × (work < 8192))) }
+    ensures ok { OnOk result (Room shelf work) }
+    ensures err { IfErr result (Short shelf work) }
 {
     if shelf < SHELF {
         return Err(Refusal::MemoryShort);
@@ -37,7 +34,8 @@ impl Directory {
         place: Place,
     ) -> Result<TableRef<'a, F>, Refusal>
         requires shelf_whole { 12544 ≤ length shelf.now }
-        ensures found_or_refused { MatchResult result (λ t. Found (map entry_of self.now.entries) shelf.now place.number t) (λ f. (f ≡ PlaceEmpty) × (at_place empty (map entry_of self.now.entries) place.number ≡ empty)) }
+        ensures ok { IfOk result (Found self.now shelf.now place.number) }
+        ensures err { IfErr result (Vacant self.now place.number) }
     {
         let shape = self.shape_at(place).ok_or(Refusal::PlaceEmpty)?;
         Ok(TableRef::at(shelf, place.begins(), shape))
@@ -51,8 +49,11 @@ impl Directory {
         place: usize,
         to: usize,
     ) -> Result<(TableRef<'a, F>, Place), Refusal>
-        ensures checked { (c : Call) (out : List ℕ) (v : Verdict) → Reads c (place ∷ []) (to ∷ []) 8192 → Checked F.field (state self.now.entries shelf.now (length work.now) out v) c 4 result }
-        ensures found { IfOk result (λ r. Found (map entry_of self.now.entries) shelf.now place r.0 × (r.1.number ≡ to) × Room (length shelf.now) (length work.now)) }
+        ensures checked { ChecksOne F.field (work_state self.now shelf.now work.now)
+            place to result }
+        ensures found { IfOk result (λ r. Found self.now shelf.now place r.0) }
+        ensures named { IfOk result (λ r. r.1.number ≡ to) }
+        ensures room { OnOk result (Room (length shelf.now) (length work.now)) }
     {
         let place = Place::try_from(place)?;
         let to = Place::try_from(to)?;
@@ -71,8 +72,11 @@ impl Directory {
         second: usize,
         to: usize,
     ) -> Result<(Pair<'a, F>, Place), Refusal>
-        ensures checked { (c : Call) (out : List ℕ) (v : Verdict) → Pairs c first second to → Checked F.field (state self.now.entries shelf.now (length work.now) out v) c 5 result }
-        ensures found { IfOk result (λ r. FoundBoth (map entry_of self.now.entries) shelf.now first second r.0 × (r.1.number ≡ to) × Room (length shelf.now) (length work.now)) }
+        ensures checked { ChecksTwo F.field (work_state self.now shelf.now work.now)
+            first second to result }
+        ensures found { IfOk result (λ r. FoundBoth self.now shelf.now first second r.0) }
+        ensures named { IfOk result (λ r. r.1.number ≡ to) }
+        ensures room { OnOk result (Room (length shelf.now) (length work.now)) }
     {
         let first = Place::try_from(first)?;
         let second = Place::try_from(second)?;

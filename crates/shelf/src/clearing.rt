@@ -1,6 +1,4 @@
 //! The call that empties a place.
-ghost use Rattle.std.specs.Prelude.{map};
-ghost use Rattle.shelf.specs.Views.{entry_of};
 ghost use Rattle.shelf.specs.Clearing.{Clears};
 
 use crate::directory::Directory;
@@ -11,7 +9,7 @@ use book::refusal::Refusal;
 impl Directory {
     /// Empties the entry of a place. No memory is lent to it: of every shelf memory it writes no element.
     pub fn clear(&mut self, place: usize) -> Result<(), Refusal>
-        ensures clears { Clears (map entry_of self.old.entries) place result (map entry_of self.new.entries) }
+        ensures clears { Clears self.old place result self.new }
     {
         let place = Place::try_from(place)?;
         self.shape_at(place).ok_or(Refusal::PlaceEmpty)?;

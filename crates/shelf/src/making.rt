@@ -1,15 +1,9 @@
 //! The calls that make a table at a place. It is built at the front of work memory and copied last, so that it may be
 //! made of the table that it replaces, and a refusal writes nothing.
-ghost use Rattle.std.specs.Prelude.{ℕ, ◌≤◌, List, length};
-ghost use Rattle.series.specs.Tables.{Table, SameTable};
-ghost use Rattle.rows.specs.Seen.{table_of};
-ghost use Rattle.book.specs.Shelves.{Lent};
-ghost use Rattle.book.specs.Using.{lending};
+ghost use Rattle.std.specs.Prelude.{◌≤◌, length};
 ghost use Rattle.book.specs.Calls.{load, sum, scale, multiply, after, turn, reduce};
-ghost use Rattle.book.specs.Doing.{Makes, Does};
-ghost use Rattle.book.specs.declared.verdict.Verdict.{Verdict};
-ghost use Rattle.book.specs.declared.outcome.Answer.TheVariants.{Done};
-ghost use Rattle.shelf.specs.Views.{shelf_of, state, outcome_by};
+ghost use Rattle.shelf.specs.Views.{shelf_of, work_state, outcome_of};
+ghost use Rattle.shelf.specs.Performing.{Performs, Keeps};
 
 use crate::checks::room;
 use crate::directory::Directory;
@@ -25,7 +19,8 @@ impl Directory {
     // A finished table, copied to a place, whose entry then tells its shape.
     fn keep<F: Field>(&mut self, shelf: &mut [F], made: TableRef<'_, F>, to: Place)
         requires shelf_whole { 12544 ≤ length shelf.old }
-        ensures kept { (l : Lent) (R : Table F.Value) → SameTable (table_of F.field F.value made.entry) R → Makes F.field F.value (lending (shelf_of self.old.entries shelf.old) l) to.number R (lending (shelf_of self.new.entries shelf.new) l) }
+        ensures kept { Keeps F.field F.value made.entry to
+            (shelf_of self.old shelf.old) (shelf_of self.new shelf.new) }
     {
         let shape = made.shape();
         let base = to.begins();
@@ -42,7 +37,8 @@ impl Directory {
         place: usize,
         to: usize,
     ) -> Result<(), Refusal>
-        ensures does { (out : List ℕ) (v : Verdict) → Does F.field F.value (state self.old.entries shelf.old (length work.old) out v) (turn place to) (outcome_by (λ _. Done) result) (state self.new.entries shelf.new (length work.new) out v) }
+        ensures does { Performs F.field F.value (turn place to) (outcome_of result)
+            (work_state self.old shelf.old work.old) (work_state self.new shelf.new work.new) }
     {
         let (table, to) = self.one_table(shelf, work, place, to)?;
         let shape = table.shape();
@@ -60,7 +56,8 @@ impl Directory {
         place: usize,
         to: usize,
     ) -> Result<(), Refusal>
-        ensures does { (out : List ℕ) (v : Verdict) → Does F.field F.value (state self.old.entries shelf.old (length work.old) out v) (reduce place to) (outcome_by (λ _. Done) result) (state self.new.entries shelf.new (length work.new) out v) }
+        ensures does { Performs F.field F.value (reduce place to) (outcome_of result)
+            (work_state self.old shelf.old work.old) (work_state self.new shelf.new work.new) }
     {
         let (table, to) = self.one_table(shelf, work, place, to)?;
         let letters = table.letters();
@@ -79,7 +76,8 @@ impl Directory {
         code: u64,
         to: usize,
     ) -> Result<(), Refusal>
-        ensures does { (out : List ℕ) (v : Verdict) → Does F.field F.value (state self.old.entries shelf.old (length work.old) out v) (scale place code to) (outcome_by (λ _. Done) result) (state self.new.entries shelf.new (length work.new) out v) }
+        ensures does { Performs F.field F.value (scale place code to) (outcome_of result)
+            (work_state self.old shelf.old work.old) (work_state self.new shelf.new work.new) }
     {
         let (table, to) = self.one_table(shelf, work, place, to)?;
         let factor = F::from_code(code).ok_or(Refusal::CodeOutside)?;
@@ -99,7 +97,8 @@ impl Directory {
         letter: u8,
         to: usize,
     ) -> Result<(), Refusal>
-        ensures does { (out : List ℕ) (v : Verdict) → Does F.field F.value (state self.old.entries shelf.old (length work.old) out v) (after place letter to) (outcome_by (λ _. Done) result) (state self.new.entries shelf.new (length work.new) out v) }
+        ensures does { Performs F.field F.value (after place letter to) (outcome_of result)
+            (work_state self.old shelf.old work.old) (work_state self.new shelf.new work.new) }
     {
         let (table, to) = self.one_table(shelf, work, place, to)?;
         let outside = Refusal::LetterOutside { position: 1 };
@@ -119,7 +118,8 @@ impl Directory {
         text: &[u8],
         to: usize,
     ) -> Result<(), Refusal>
-        ensures does { (out : List ℕ) (v : Verdict) → Does F.field F.value (state self.old.entries shelf.old (length work.old) out v) (load text.now to) (outcome_by (λ _. Done) result) (state self.new.entries shelf.new (length work.new) out v) }
+        ensures does { Performs F.field F.value (load text.now to) (outcome_of result)
+            (work_state self.old shelf.old work.old) (work_state self.new shelf.new work.new) }
     {
         let to = Place::try_from(to)?;
         room(shelf.len(), work.len())?;
@@ -138,7 +138,8 @@ impl Directory {
         second: usize,
         to: usize,
     ) -> Result<(), Refusal>
-        ensures does { (out : List ℕ) (v : Verdict) → Does F.field F.value (state self.old.entries shelf.old (length work.old) out v) (sum first second to) (outcome_by (λ _. Done) result) (state self.new.entries shelf.new (length work.new) out v) }
+        ensures does { Performs F.field F.value (sum first second to) (outcome_of result)
+            (work_state self.old shelf.old work.old) (work_state self.new shelf.new work.new) }
     {
         let (both, to) = self.two_tables(shelf, work, first, second, to)?;
         let states = both.left.states() + both.right.states();
@@ -161,7 +162,8 @@ impl Directory {
         second: usize,
         to: usize,
     ) -> Result<(), Refusal>
-        ensures does { (out : List ℕ) (v : Verdict) → Does F.field F.value (state self.old.entries shelf.old (length work.old) out v) (multiply first second to) (outcome_by (λ _. Done) result) (state self.new.entries shelf.new (length work.new) out v) }
+        ensures does { Performs F.field F.value (multiply first second to) (outcome_of result)
+            (work_state self.old shelf.old work.old) (work_state self.new shelf.new work.new) }
     {
         let (both, to) = self.two_tables(shelf, work, first, second, to)?;
         let states = both.left.states() * both.right.states();

@@ -1,5 +1,5 @@
 //! Calls told by value, made one after another.
-ghost use Rattle.std.specs.Prelude.{◌≡◌, ◌+◌, ◌≤◌, min, length, take, drop};
+ghost use Rattle.std.specs.Prelude.{◌≡◌, min, length, take, drop};
 ghost use Rattle.book.specs.Calls.{call_of};
 ghost use Rattle.book.specs.Doing.{Does};
 ghost use Rattle.book.specs.Running.{Run};
@@ -26,7 +26,10 @@ impl Directory {
         verdict: &mut Verdict,
         call: &Call<&[u8]>,
     ) -> Outcome
-        ensures does { Does F.field F.value (state self.old.entries shelf.old (length work.old) output.old verdict.old) (call_of call.now) result (state self.new.entries shelf.new (length work.new) output.new verdict.new) }
+        ensures does { Does F.field F.value
+            (state self.old shelf.old (length work.old) output.old verdict.old)
+            (call_of call.now) result
+            (state self.new shelf.new (length work.new) output.new verdict.new) }
     {
         match *call {
             Call::Load { text, to } => self.load(shelf, work, text, to).map(|()| Answer::Done),
@@ -64,7 +67,10 @@ impl Directory {
         verdict: &mut Verdict,
         request: &Request<'_>,
     ) -> Outcome
-        ensures taken_up { TakenUp F.field F.value (state self.old.entries shelf.old (length work.old) output.old verdict.old) request.now result (state self.new.entries shelf.new (length work.new) output.new verdict.new) }
+        ensures taken_up { TakenUp F.field F.value
+            (state self.old shelf.old (length work.old) output.old verdict.old)
+            request.now result
+            (state self.new shelf.new (length work.new) output.new verdict.new) }
     {
         let elements = request.work.min(work.len());
         let bytes = request.output.min(output.len());
@@ -89,10 +95,16 @@ impl Directory {
         outcomes: &mut [Outcome],
     ) -> usize
         ensures as_many_as_fit { result ≡ min (length requests.now) (length outcomes.old) }
-        ensures runs { Run F.field F.value (state self.old.entries shelf.old (length work.old) output.old verdict.old) (take result requests.now) (take result outcomes.new) (state self.new.entries shelf.new (length work.new) output.new verdict.new) }
+        ensures runs { Run F.field F.value
+            (state self.old shelf.old (length work.old) output.old verdict.old)
+            (take result requests.now) (take result outcomes.new)
+            (state self.new shelf.new (length work.new) output.new verdict.new) }
         ensures later_outcomes_kept { drop result outcomes.new ≡ drop result outcomes.old }
-        ensures follows_from_open { RunFollows F.field F.value (λ n m. n + m) (λ r t. r ≤ t) (state self.old.entries shelf.old (length work.old) output.old verdict.old) (take result requests.now) (take result outcomes.new) (state self.new.entries shelf.new (length work.new) output.new verdict.new) }
-        ensures law { UsesFollowTheBook F.field F.value (λ n m. n + m) (λ r t. r ≤ t) }
+        ensures follows_from_open { RunFollows F.field F.value
+            (state self.old shelf.old (length work.old) output.old verdict.old)
+            (take result requests.now) (take result outcomes.new)
+            (state self.new shelf.new (length work.new) output.new verdict.new) }
+        ensures law { UsesFollowTheBook F.field F.value }
     {
         // Holds the law that the contract states; nothing is done.
         uses_follow_the_book::<F>();

@@ -16,7 +16,8 @@ pub(crate) struct Place {
 impl TryFrom<usize> for Place {
     type Error = Refusal;
 
-    ghost try_from_gives = { λ number r. MatchResult r (λ place. place.number ≡ number) (λ f. (f ≡ PlaceOutside) × (IsPlace number → ⊥)) };
+    ghost try_from_gives = { λ number r.
+        MatchResult r (λ place. place.number ≡ number) (λ f. (f ≡ PlaceOutside) × ¬ (IsPlace number)) };
 
     fn try_from(number: usize) -> Result<Place, Refusal> {
         if number < 1 || number > 8 {

@@ -1,9 +1,9 @@
 //! The calls that read tables and leave the shelf as it is.
-ghost use Rattle.std.specs.Prelude.{◌≡◌, ℕ, List, length};
+ghost use Rattle.std.specs.Prelude.{◌≡◌, length};
 ghost use Rattle.book.specs.Calls.{weigh, compare, write};
-ghost use Rattle.book.specs.Doing.{Does};
 ghost use Rattle.book.specs.declared.outcome.Answer.TheVariants.{Code, Told, Count};
-ghost use Rattle.shelf.specs.Views.{state, outcome_by, verdict_on};
+ghost use Rattle.shelf.specs.Views.{work_state, output_state, verdict_state, outcome_by, verdict_on};
+ghost use Rattle.shelf.specs.Performing.{Performs};
 
 use crate::directory::Directory;
 use crate::memory::SHELF;
@@ -55,7 +55,8 @@ impl Directory {
         place: usize,
         word: &[u8],
     ) -> Result<u64, Refusal>
-        ensures does { (out : List ℕ) (v : Verdict) → Does F.field F.value (state self.now.entries shelf.now (length work.old) out v) (weigh place word.now) (outcome_by Code result) (state self.now.entries shelf.now (length work.new) out v) }
+        ensures does { Performs F.field F.value (weigh place word.now) (outcome_by Code result)
+            (work_state self.now shelf.now work.old) (work_state self.now shelf.now work.new) }
     {
         let (table, _) = self.one_table(shelf, work, place, place)?;
         let weight = weight::weigh(table, word, work)?;
@@ -69,7 +70,9 @@ impl Directory {
         place: usize,
         output: &mut [u8],
     ) -> Result<usize, Refusal>
-        ensures does { (work : ℕ) (v : Verdict) → Does F.field F.value (state self.now.entries shelf.now work output.old v) (write place) (outcome_by Count result) (state self.now.entries shelf.now work output.new v) }
+        ensures does { Performs F.field F.value (write place) (outcome_by Count result)
+            (output_state self.now shelf.now output.old)
+            (output_state self.now shelf.now output.new) }
     {
         let place = Place::try_from(place)?;
         if shelf.len() < SHELF {
@@ -91,7 +94,10 @@ impl Directory {
         second: usize,
         verdict: &mut Verdict,
     ) -> Result<(), Refusal>
-        ensures does { (out : List ℕ) → Does F.field F.value (state self.now.entries shelf.now (length work.old) out verdict.old) (compare first second) (outcome_by (λ _. Told verdict.new) result) (state self.now.entries shelf.now (length work.new) out verdict.new) }
+        ensures does { Performs F.field F.value
+            (compare first second) (outcome_by (λ _. Told verdict.new) result)
+            (verdict_state self.now shelf.now work.old verdict.old)
+            (verdict_state self.now shelf.now work.new verdict.new) }
     {
         let (both, _) = self.two_tables(shelf, work, first, second, second)?;
         let found = search::compare::compare(work, both);

@@ -1,4 +1,4 @@
-use Rattle.std.proofs.Common.{◌≡◌, ◌+◌, ◌-◌, map, length, refl, ap, ap₂, ◌∙◌, sym, subst, arith}
+use Rattle.std.proofs.Common.{◌≡◌, ◌+◌, ◌-◌, length, refl, ap, ap₂, ◌∙◌, sym, subst, arith}
 use borrow.Rule.Slice.PartMut.{put_mid}
 use Rattle.series.specs.Tables.{SameTable}
 use Rattle.rows.specs.Layout.{table_size, table_at}
@@ -6,7 +6,7 @@ use Rattle.rows.specs.Seen.{table_of}
 use Rattle.rows.specs.Tables.{TableWritten}
 use Rattle.book.specs.Shelves.{filled, with_place}
 use Rattle.book.proofs.Blocks.{same_trans}
-use Rattle.shelf.specs.Views.{entry_of, entry_from}
+use Rattle.shelf.specs.Views.{entry_of}
 use Rattle.shelf.proofs.Entries.{place_fits}
 use Rattle.shelf.proofs.Kept.{table_kept}
 use Rattle.shelf.proofs.directory.Directory.keep.Goals as goal
@@ -24,7 +24,7 @@ returns g c =
       kept = λ l R s. record {
         entries =
             c.set.ensures.one_entry_changed
-            ∙ ap (with_place (map entry_of c.args.self.now.entries) c.args.to.number) (ap entry_from c.of.ensures.holds ∙ ap (λ y. filled y.states y.letters) c.shape-shape.ensures.told ∙ ap₂ filled s.states s.letters);
+            ∙ ap (with_place c.args.self.now c.args.to.number) (ap entry_of c.of.ensures.holds ∙ ap (λ y. filled y.states y.letters) c.shape-shape.ensures.told ∙ ap₂ filled s.states s.letters);
         numbers =
             subst (λ b. TableWritten K v b R c.args.shelf.now (put_mid base (base + c.size.result - base) c.args.shelf.now c.copy_from_slice.new.self)) c.begins-base.ensures.told
             (table_kept K v base (base + c.size.result - base) z.states z.letters c.args.shelf.now c.copy_from_slice.new.self R (omega (arith, size))

@@ -15,9 +15,9 @@ loop-i-preserved g c =
     let n = c.min-count.result in
     let room : c.loop-i.i < length c.loop-i.outcomes = omega (arith, c.min-count.ensures, min-le_right (length c.args.requests.now) (length c.args.outcomes.now), length-take n c.args.requests.now, min-le_left n (length c.args.requests.now), c.loop-i-test.true, c.loop-i.auto.outcomes) in (
       run_more g.F.Field.field g.F.Field.value
-          (state c.args.self.now.entries c.args.shelf.now (length c.args.work.now) c.args.output.now c.args.verdict.now)
-          (state c.loop-i.self.entries c.loop-i.shelf (length c.loop-i.work) c.loop-i.output c.loop-i.verdict)
-          (state c.take_up.new.self.entries c.take_up.new.shelf (length c.take_up.new.work) c.take_up.new.output c.take_up.new.verdict)
+          (state c.args.self.now c.args.shelf.now (length c.args.work.now) c.args.output.now c.args.verdict.now)
+          (state c.loop-i.self c.loop-i.shelf (length c.loop-i.work) c.loop-i.output c.loop-i.verdict)
+          (state c.take_up.new.self c.take_up.new.shelf (length c.take_up.new.work) c.take_up.new.output c.take_up.new.verdict)
           (take n c.args.requests.now) c.loop-i.outcomes c.loop-i.i (record { call = Load (record { ref_ptr = (0, 0); now = [] }) 0; work = 0; output = 0 }) c.take_up.result c.loop-i-test.true room c.loop-i.invariant.0 c.take_up.ensures.taken_up,
       drop_more_set c.loop-i.outcomes c.args.outcomes.now c.loop-i.i c.take_up.result c.loop-i.invariant.1,
     )
@@ -26,8 +26,8 @@ pub returns : goal.returns
 returns g c =
     let K = g.F.Field.field in
     let v = g.F.Field.value in
-    let first = state c.args.self.now.entries c.args.shelf.now (length c.args.work.now) c.args.output.now c.args.verdict.now in
-    let left = state c.loop-i.self.entries c.loop-i.shelf (length c.loop-i.work) c.loop-i.output c.loop-i.verdict in
+    let first = state c.args.self.now c.args.shelf.now (length c.args.work.now) c.args.output.now c.args.verdict.now in
+    let left = state c.loop-i.self c.loop-i.shelf (length c.loop-i.work) c.loop-i.output c.loop-i.verdict in
     let n = c.min-count.result in
     let asked = c.args.requests.now in
     let few : n ≤ length asked = omega (arith, c.min-count.ensures, min-le_left (length asked) (length c.args.outcomes.now)) in
