@@ -18,8 +18,7 @@ use Rattle.book.specs.Shelves.{State, Place, entry, letters_of, with_place, tabl
 use Rattle.book.specs.Calls.{Call, load, sum, scale, multiply, after, turn, reduce, weigh, compare, write, clear, Among, sources, results}
 use Rattle.book.specs.Refusing.{Accepts}
 use Rattle.book.specs.Doing.{Makes, Empties, Leaves, Does}
-use Rattle.book.specs.Using.{Page, blank, holds, letters_on, weights_on, page, Enters, Hears, Fed}
-use Rattle.book.specs.Law.{Changes}
+use Rattle.book.specs.Using.{Changes, Page, blank, holds, letters_on, weights_on, page, Enters, Hears, Fed}
 use Rattle.book.specs.declared.outcome.Answer.{Answer}
 use Rattle.book.specs.Outcomes.{Outcome}
 use Rattle.book.proofs.Accepting.{placed, full, sum_alike, multiply_alike, sum_few, multiply_few, after_over}

@@ -1,5 +1,5 @@
 -- Uses follow the book. Assumes nothing.
-use Rattle.std.proofs.Common.{◌≡◌, ℕ, ◌+◌, ◌-◌, ◌<◌, ◌≤◌, List, [], ◌∷◌, ◌++◌, length, take, replicate, sym, refl, ap, ◌∙◌, subst, ap₂, inl, inr, arith, Some, Ok}
+use Rattle.std.proofs.Common.{◌≡◌, ℕ, ◌+◌, ◌-◌, ◌<◌, ◌≤◌, List, [], ◌∷◌, ◌++◌, length, get_or, take, replicate, sym, refl, ap, ◌∙◌, subst, ap₂, inl, inr, arith, Some, Ok}
 use Rattle.std.proofs.lemmas.List.{take_at, take-append-drop}
 use Rattle.std.proofs.lemmas.Option.{slice_get_within}
 use Rattle.std.specs.List.{slice_get}
@@ -17,9 +17,11 @@ use Rattle.book.specs.Shelves.{Entry, empty, filled, Shelf, at_place, entry, sta
 use Rattle.book.specs.Calls.{Call, reduce, weigh, compare}
 use Rattle.book.specs.Verdicts.{Says, reported}
 use Rattle.book.specs.Doing.{Makes}
-use Rattle.book.specs.Using.{lending, Use, Course, Opening, next, Page, blank, holds, page, Book}
+use Rattle.book.specs.Using.{lending, Use, Leads, Course, Opening, Untouched, next, Page, blank, holds, page, Book}
 use Rattle.book.specs.Running.{taken_back}
-use Rattle.book.specs.Law.{SamePage, Matches, Reports, Untouched, Reduces, Follows, Smallest, FollowsThroughout, UsesFollowTheBook}
+use Rattle.book.specs.Settling.{OutcomesAreSettled}
+use Rattle.book.specs.RoundTrips.{LoadAndWriteUndoEachOther}
+use Rattle.book.specs.Law.{SamePage, Matches, Reports, Reduces, Follows, Smallest, FollowsThroughout, UsesFollowTheBook}
 use Rattle.book.specs.declared.verdict.Verdict.{Verdict}
 use Rattle.book.specs.declared.outcome.Answer.TheVariants.{Code, Told}
 use Rattle.book.specs.Outcomes.{Outcome}
@@ -28,7 +30,7 @@ use Rattle.book.proofs.Blocks.{same_sym, same_trans}
 use Rattle.book.proofs.Accepting.{placed, full, weigh_over}
 use Rattle.book.proofs.Standing.{Good, Stands, anywhere, source}
 use Rattle.book.proofs.Uses.{use_booked, use_stands, run_use}
-use Rattle.book.proofs.Courses.{after, use_course, use_until, use_each, use_onward, use_joined, untouched_to}
+use Rattle.book.proofs.Courses.{use_passed, run_passed, course_of_calls, came, onward, each, use_joined, untouched_to}
 use Rattle.book.proofs.Staying.{Stays, stays_table, stands_range, untouched_stays, use_memory}
 
 module _ {V : Type 0} (K : FiniteField V) (S T : Table V) where
@@ -136,7 +138,7 @@ module _ {V : Type 0} (K : FiniteField V) {F : Type 0} (value : F → V) (told_a
     follows =
         let b = use_booked K value u.uses in
         record {
-          each = use_each K value u.uses;
+          each = let q = use_passed K value u.uses in each K value u.first s cs os (λ i. get_or q.all i u.first) q.course;
           eight = (stands b.0 b.1).entries;
           in_range = stands_range K value s b.0 (stands b.0 b.1);
           same_length = use_memory K value told_apart u.opened u.uses;
@@ -153,66 +155,62 @@ module _ {V : Type 0} (K : FiniteField V) {F : Type 0} (value : F → V) (told_a
           lies_on = λ p t h. let r = untouched_stays K value told_apart p s t h cs os u in record { entry_same = r.entry_same; elements = r.same };
         }
 
-  module _ (cs : List Call) (os : List Outcome) (s : Shelf F) (u : Opening K value cs os s) where
-    abbrev passed : ℕ → Shelf F
-    passed = after K value u.uses
-
-    came : (i : ℕ) → i ≤ length cs → Use K value u.first (take i cs) (take i os) (passed i)
-    came = use_until K value u.uses
-
+  module _ (cs : List Call) (os : List Outcome) (s : Shelf F) (u : Opening K value cs os s) (after : ℕ → Shelf F) (r : Course (Leads K value) u.first cs os s after) where
     -- the use that the first i calls are, and what holds of it
-    abbrev until : (i : ℕ) → i ≤ length cs → Opening K value (take i cs) (take i os) (passed i)
-    until i l = record { first = u.first; opened = u.opened; uses = came i l }
+    abbrev until : (i : ℕ) → i ≤ length cs → Opening K value (take i cs) (take i os) (after i)
+    until i l = record { first = u.first; opened = u.opened; uses = came K value u.first s cs os after r i l }
 
-    follows_until : (i : ℕ) (l : i ≤ length cs) → Follows K value (take i cs) (take i os) (passed i) (until i l)
-    follows_until i l = follows (take i cs) (take i os) (passed i) (until i l)
+    follows_until : (i : ℕ) (l : i ≤ length cs) → Follows K value (take i cs) (take i os) (after i) (until i l)
+    follows_until i l = follows (take i cs) (take i os) (after i) (until i l)
 
     within : (i : ℕ) (c : Call) → slice_get cs i ≡ Some c → i ≤ length cs
     within i c e = let l = slice_get_within cs i c e in omega arith
 
-    throughout : FollowsThroughout K value cs os s u
-    throughout =
-        let r : Course K value u.first cs os s passed = use_course K value u.uses in
-        record {
-          after = passed;
-          course = r;
-          came = came;
-          onward = use_onward K value u.uses;
-          follows = follows_until;
-          weighed = λ i p w a e f B b.
-              let d = r.calls i (weigh p w) (Ok a) e f in
-              (follows_until i (within i (weigh p w) e)).weighs B b d.lent p w a d.left d.does;
-          compared = λ i p q a e f.
-              let d = r.calls i (compare p q) (Ok a) e f in
-              let x = (follows_until i (within i (compare p q) e)).compares d.lent p q a d.left d.does in
-              (d.left.lent.verdict, x);
-          untouched = λ p i j low high h. untouched_to K value u.first s cs os passed r p i j low high h;
-          reduced = λ i j p to a low high e f h.
-              let d = r.calls i (reduce p to) (Ok a) e f in
-              smallest (table K value (passed j) to) (record {
-                cs = take i cs;
-                os = take i os;
-                before = passed i;
-                use_of = until i (within i (reduce p to) e);
-                lent = d.lent;
-                place = p;
-                to = to;
-                answer = a;
-                left = d.left;
-                does = d.does;
-                there = passed j;
-                since = subst (λ z. Untouched K value to z (passed j)) (sym d.shelf) h;
-                is = refl;
-              });
-        }
+    throughout : FollowsThroughout K value cs os s u after
+    throughout = record {
+      course = r;
+      came = came K value u.first s cs os after r;
+      onward = onward K value u.first s cs os after r;
+      follows = follows_until;
+      weighed = λ i p w a e f B b.
+          let d = r.steps i (weigh p w) (Ok a) e f in
+          (follows_until i (within i (weigh p w) e)).weighs B b d.lent p w a d.left d.does;
+      compared = λ i p q a e f.
+          let d = r.steps i (compare p q) (Ok a) e f in
+          let x = (follows_until i (within i (compare p q) e)).compares d.lent p q a d.left d.does in
+          (d.left.lent.verdict, x);
+      untouched = untouched_to K value u.first s cs os after r;
+      reduced = λ i j p to a low high e f h.
+          let d = r.steps i (reduce p to) (Ok a) e f in
+          smallest (table K value (after j) to) (record {
+            cs = take i cs;
+            os = take i os;
+            before = after i;
+            use_of = until i (within i (reduce p to) e);
+            lent = d.lent;
+            place = p;
+            to = to;
+            answer = a;
+            left = d.left;
+            does = d.does;
+            there = after j;
+            since = subst (λ z. Untouched K value to z (after j)) (sym d.shelf) h;
+            is = refl;
+          });
+    }
 
-  pub lawful : UsesFollowTheBook K value
-  lawful = record {
+  pub lawful : OutcomesAreSettled K value → LoadAndWriteUndoEachOther K value → UsesFollowTheBook K value
+  lawful settled round_trips = record {
     every_use = follows;
+    courses = λ first s cs os u. let q = use_passed K value u in ((λ i. get_or q.all i first), q.course);
     throughout = throughout;
     runs = λ first t rs os h. run_use K value h;
+    run_courses = λ first t rs os h. let q = run_passed K value h in ((λ i. get_or q.all i first), q.course);
+    course_of_calls = course_of_calls K value;
     joined = λ first s t cs ds os ps u v. use_joined K value first s t cs ds os ps u v;
     refused_leaves = λ s t r f d. ap (taken_back s r) d.1 ∙ (λ i. record { shelf = s.shelf; lent = record { work = s.lent.work; output = take-append-drop r.output s.lent.output i; verdict = s.lent.verdict } });
     fewest = λ R r. (smallest R r).fewest;
     one_form = λ R S r t. (smallest R r).one_form S t;
+    settled = settled;
+    round_trips = round_trips;
   }

@@ -7,6 +7,7 @@ mod Uses
 mod Courses
 mod Staying
 mod Lawful
+mod RoundTrips
 mod SameStates
 pub mod OneRefusal
 pub mod OneVerdict

@@ -14,7 +14,7 @@ use Rattle.book.specs.Calls.{Call, load, sum, scale, multiply, after, turn, redu
 use Rattle.book.specs.Refusing.{Refuses, Accepts}
 use Rattle.book.specs.Verdicts.{Says}
 use Rattle.book.specs.Doing.{with_verdict, with_text, Makes, Leaves, Does}
-use Rattle.book.specs.Running.{given, taken_back, call_in, Run, none, next}
+use Rattle.book.specs.Running.{given, taken_back, call_in, CarriesOut, Run, none, next}
 use Rattle.book.specs.Settling.{InResult, SameState, OutcomesAreSettled}
 use Rattle.book.specs.declared.call.Request.{Request}
 use Rattle.book.specs.declared.refusal.Refusal.{Refusal}
@@ -123,25 +123,21 @@ module _ {V : Type 0} (K : FiniteField V) {F : Type 0} (value : F → V) (told_a
     os₀ : List Outcome
     o : Outcome
     s : State F
-    u : State F
     until : Run K value first rs os₀ s
-    does : Does K value (given s r) (call_in r) o u
+    carried_out : CarriesOut K value s r o t
     outcomes : os ≡ os₀ ++ o ∷ []
-    left : t ≡ taken_back s r u
 
   last : {first t : State F} {qs : List Request} {os : List Outcome} → Run K value first qs os t → (rs : List Request) (r : Request) → qs ≡ rs ++ r ∷ [] → Last first rs r os t
   last none rs r e = absurd (omega (arith, ap length e, length-append rs (r ∷ [])))
-  last {first} (next {rs = qs} {os = os} {s = s} h q o u d) rs r e =
+  last {first} (next {rs = qs} {os = os} {s = s} h q o t d) rs r e =
       let g = snoc qs rs q r e in
       record {
         os₀ = os;
         o = o;
         s = s;
-        u = u;
         until = subst (λ z. Run K value first z os s) g.0 h;
-        does = subst (λ z. Does K value (given s z) (call_in z) o u) g.1 d;
+        carried_out = subst (λ z. CarriesOut K value s z o t) g.1 d;
         outcomes = refl;
-        left = ap (λ z. taken_back s z u) g.1;
       }
 
   nothing : {first t : State F} {qs : List Request} {os : List Outcome} → Run K value first qs os t → qs ≡ [] → (os ≡ []) × (t ≡ first)
@@ -156,11 +152,12 @@ module _ {V : Type 0} (K : FiniteField V) {F : Type 0} (value : F → V) (told_a
 
   runs : {s s' t t' : State F} {rs : List Request} {os os' : List Outcome} → SameState K value s s' → Run K value s rs os t → Run K value s' rs os' t' → (os ≡ os') × SameState K value t t'
   runs {s} {s'} e none k = let z = nothing k refl in (sym z.0, subst (SameState K value s) (sym z.1) e)
-  runs {s} {s'} e (next {rs = rs} {os = os} {s = m} h r o u d) k =
+  runs {s} {s'} e (next {rs = rs} {os = os} {s = m} h r o t d) k =
       let z = last k rs r refl in
       let w = runs e h z.until in
-      let v = one (given m r) (given z.s r) u z.u (given_same m z.s r w.1) (call_in r) o z.o d z.does in
-      (ap₂ (λ a b. a ++ b ∷ []) w.0 v.0 ∙ sym z.outcomes, subst (SameState K value (taken_back m r u)) (sym z.left) (back_same m z.s u z.u r w.1 v.1))
+      let x = z.carried_out in
+      let v = one (given m r) (given z.s r) d.left x.left (given_same m z.s r w.1) (call_in r) o z.o d.does x.does in
+      (ap₂ (λ a b. a ++ b ∷ []) w.0 v.0 ∙ sym z.outcomes, subst₂ (SameState K value) (sym d.back) (sym x.back) (back_same m z.s d.left x.left r w.1 v.1))
 
   pub settled : OutcomesAreSettled K value
   settled = record {

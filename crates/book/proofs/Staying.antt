@@ -13,8 +13,7 @@ use Rattle.text.specs.Facts.{ToldApart}
 use Rattle.book.specs.Shelves.{Entry, empty, filled, Shelf, Lent, State, Opened, Place, InRange, at_place, entry, states_of, letters_of, begins, table}
 use Rattle.book.specs.Calls.{Call}
 use Rattle.book.specs.Doing.{Does}
-use Rattle.book.specs.Using.{lending, Use, none, next, Opening, Page, blank, holds, page}
-use Rattle.book.specs.Law.{Changes, Untouched, still, later}
+use Rattle.book.specs.Using.{lending, Use, none, next, Opening, Changes, Untouched, still, later, Page, blank, holds, page}
 use Rattle.book.specs.Outcomes.{Outcome}
 use Rattle.book.proofs.Places.{place?, at_other, at_outside, apart}
 use Rattle.text.proofs.Limits.{block_fits}

@@ -6,10 +6,9 @@ use Rattle.text.specs.Facts.{ToldApart}
 use Rattle.field.specs.FiniteField.{FiniteField}
 use Rattle.book.specs.Shelves.{empty, Shelf, State, Opened, at_place, begins}
 use Rattle.book.specs.Calls.{Call}
-use Rattle.book.specs.Using.{lending, Use, none, next, Page, blank, Book}
+use Rattle.book.specs.Using.{lending, Use, none, next, Changes, Page, blank, Book}
 use Rattle.book.specs.Running as run
 use Rattle.book.specs.Running.{given, call_in, Run}
-use Rattle.book.specs.Law.{Changes}
 use Rattle.book.specs.declared.call.Request.{Request}
 use Rattle.book.specs.Outcomes.{Outcome}
 use Rattle.book.proofs.Standing.{Good, Stands, made, cleared}
@@ -62,4 +61,4 @@ module _ {V : Type 0} (K : FiniteField V) {F : Type 0} (value : F → V) where
   -- requested calls are a use
   pub run_use : {first t : State F} {rs : List Request} {os : List Outcome} → Run K value first rs os t → Use K value first.shelf (map call_in rs) os t.shelf
   run_use run.none = none
-  run_use {first} (run.next {rs = rs} {os = os} {s = s} h r o t d) = subst (λ cs. Use K value first.shelf cs (os ++ o ∷ []) t.shelf) (sym (map-append call_in rs (r ∷ []))) (next (run_use h) (given s r).lent (call_in r) o t d)
+  run_use {first} (run.next {rs = rs} {os = os} {s = s} h r o t d) = subst (λ cs. Use K value first.shelf cs (os ++ o ∷ []) t.shelf) (sym (map-append call_in rs (r ∷ []))) (subst (Use K value first.shelf (map call_in rs ++ call_in r ∷ []) (os ++ o ∷ [])) (sym (ap (λ z. z.shelf) d.back)) (next (run_use h) (given s r).lent (call_in r) o d.left d.does))

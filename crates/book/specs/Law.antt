@@ -6,11 +6,13 @@ use Rattle.series.specs.Tables.{Table, weight, SameTable}
 use Rattle.series.specs.Comparing.{Alike, LeastDifference}
 use Rattle.rows.specs.Layout.{table_size}
 use Rattle.book.specs.Shelves.{Entry, empty, filled, Shelf, Lent, State, Opened, InRange, entry, states_of, letters_of, begins, table}
-use Rattle.book.specs.Calls.{Call, reduce, weigh, compare, Among, results}
+use Rattle.book.specs.Calls.{Call, reduce, weigh, compare}
 use Rattle.book.specs.Verdicts.{kind_number, reported}
 use Rattle.book.specs.Doing.{Does}
-use Rattle.book.specs.Using.{lending, Use, CallAt, Course, Opening, Page, blank, holds, weights_on, page, Book}
-use Rattle.book.specs.Running.{call_in, given, taken_back, Run}
+use Rattle.book.specs.Using.{lending, Use, CallAt, Leads, Course, Opening, Changes, Untouched, Page, blank, holds, weights_on, page, Book}
+use Rattle.book.specs.Running.{call_in, given, taken_back, CarriesOut, Run}
+use Rattle.book.specs.Settling.{OutcomesAreSettled}
+use Rattle.book.specs.RoundTrips.{LoadAndWriteUndoEachOther}
 use Rattle.book.specs.declared.call.Request.{Request}
 use Rattle.book.specs.declared.refusal.Refusal.{Refusal}
 use Rattle.book.specs.declared.verdict.Verdict.{Verdict}
@@ -24,11 +26,6 @@ SamePage blank blank = Unit {0}
 SamePage blank (holds j g) = ⊥
 SamePage (holds k f) blank = ⊥
 SamePage (holds k f) (holds j g) = (k ≡ j) × ((w : Word) → Over k w → f w ≡ g w)
-
--- the call makes or clears the place; a refused one makes and clears none
-abbrev pub Changes : Call → Outcome → ℕ → Type 0
-Changes c (Err r) p = ⊥
-Changes c (Ok a) p = Among (results c) p
 
 module _ {V : Type 0} (K : FiniteField V) where
   -- the entry is filled exactly where the page is, and then the table has the page's letter count
@@ -58,12 +55,6 @@ module _ {V : Type 0} (K : FiniteField V) where
   HasFewestStates R = (T : Table V) → T.letters ≡ R.letters → Alike K R T → R.states ≤ T.states
 
 module _ {V : Type 0} (K : FiniteField V) {F : Type 0} (value : F → V) where
-  -- s leads to t by calls of which none makes or clears the place p
-  pub data Untouched (p : ℕ) (s : Shelf F) : Shelf F → Type 0 where
-    still : Untouched p s s
-    later : {t : Shelf F} → Untouched p s t → (l : Lent) (c : Call) (o : Outcome) (u : State F)
-        → Does K value (lending t l) c o u → ¬ (Changes c o p) → Untouched p s u.shelf
-
   -- R is what a use's reduce left, where it lies still
   pub record Reduces (R : Table V) : Type 0 where
     -- the use came to this shelf
@@ -80,7 +71,7 @@ module _ {V : Type 0} (K : FiniteField V) {F : Type 0} (value : F → V) where
     pub does : Does K value (lending before lent) (reduce place to) (Ok answer) left
     -- and since then the place was neither made nor cleared
     pub there : Shelf F
-    pub since : Untouched to left.shelf there
+    pub since : Untouched K value to left.shelf there
     pub is : R ≡ table K value there to
 
   -- the very elements at place p, and its entry, are the same on both shelves
@@ -90,11 +81,11 @@ module _ {V : Type 0} (K : FiniteField V) {F : Type 0} (value : F → V) where
         → i < begins p + table_size (states_of (entry s p)) (letters_of (entry s p))
         → slice_index_or t.memory i x ≡ slice_index_or s.memory i x
 
-  -- the answer is the code of the word's weight, as the page of place p in the book has it
+  -- the answer is the code of the word's weight on the page of place p
   abbrev pub IsWeightInBook : List (Page V) → ℕ → Word → Answer → Type 0
   IsWeightInBook B p w a = a ≡ Code (K.code (weights_on K (page K B p) w))
 
-  -- the answer is the verdict, which reports of the tables at two places of the shelf
+  -- the answer is this verdict, and it reports of the tables at the two places
   pub record IsVerdictOn (s : Shelf F) (p q : ℕ) (v : Verdict) (a : Answer) : Type 0 where
     pub told : a ≡ Told v
     pub reports : Reports K (table K value s p) (table K value s q) v
@@ -113,19 +104,20 @@ module _ {V : Type 0} (K : FiniteField V) {F : Type 0} (value : F → V) where
     pub booked : (B : List (Page V)) × Book K cs os B
     pub one_book : (B B' : List (Page V)) → Book K cs os B → Book K cs os B'
         → (p : ℕ) → SamePage (page K B p) (page K B' p)
-    -- a) tables lie exactly where the book is filled, with its letter counts and its weights
+    -- places and weights: tables lie exactly where the book is filled, with its letter counts and,
+    -- for every word, its weight
     pub tables : (B : List (Page V)) → Book K cs os B
         → (p : ℕ) → Matches K (entry s p) (page K B p) (table K value s p)
-    -- and an accepted weigh answers the code of its word's weight in the book
+    -- and an accepted weigh returns the code of its word's weight in the book
     pub weighs : (B : List (Page V)) → Book K cs os B
         → (l : Lent) (p : ℕ) (w : Word) (a : Answer) (t : State F)
         → Does K value (lending s l) (weigh p w) (Ok a) t → IsWeightInBook B p w a
-    -- b) an accepted compare reports a word exactly when some word weighs differently under its two
-    -- tables, and then the least
+    -- least difference: an accepted compare reports a word exactly when some word weighs differently
+    -- under its two tables, and then the least
     pub compares : (l : Lent) (p q : ℕ) (a : Answer) (t : State F)
         → Does K value (lending s l) (compare p q) (Ok a) t → IsVerdictOn s p q t.lent.verdict a
     -- what lies at a place lies there, the very elements, until the place is made or cleared anew
-    pub lies_on : (p : ℕ) (t : Shelf F) → Untouched p s t → LiesOn p s t
+    pub lies_on : (p : ℕ) (t : Shelf F) → Untouched K value p s t → LiesOn p s t
 
   -- what holds of what a use's reduce left, for as long as it lies
   pub record Smallest (R : Table V) : Type 0 where
@@ -136,24 +128,23 @@ module _ {V : Type 0} (K : FiniteField V) {F : Type 0} (value : F → V) where
     -- number exactly when the two weigh every word alike
     pub one_form : (S : Table V) → Reduces S → R.letters ≡ S.letters → SameTable R S ↔ Alike K R S
 
-  -- what holds of a use at each of its calls, and at each shelf that it passed
+  -- what holds of a use at each of its calls, and at each of the shelves that it passed, which are
+  -- numbered by how many of the calls were made
   pub record FollowsThroughout (cs : List Call) (os : List Outcome) (s : Shelf F)
-      (u : Opening K value cs os s) : Type 0 where
-    -- the shelves that it passed, told by how many calls were made
-    pub after : ℕ → Shelf F
-    pub course : Course K value u.first cs os s after
+      (u : Opening K value cs os s) (after : ℕ → Shelf F) : Type 0 where
+    pub course : Course (Leads K value) u.first cs os s after
     -- to each the calls before it came, from each the other calls lead to s, and at each it follows
     pub came : (i : ℕ) → i ≤ length cs → Use K value u.first (take i cs) (take i os) (after i)
     pub onward : (i : ℕ) → i ≤ length cs → Use K value (after i) (drop i cs) (drop i os) s
     pub follows : (i : ℕ) (l : i ≤ length cs) → Follows (take i cs) (take i os) (after i)
         (record { first = u.first; opened = u.opened; uses = came i l })
-    -- a) an accepted weigh among the calls answered the code of its word's weight in the book as it
-    -- then was
+    -- places and weights: an accepted weigh among the calls returned the code of its word's weight
+    -- in the book as it then was
     pub weighed : (i p : ℕ) (w : Word) (a : Answer)
         → slice_get cs i ≡ Some (weigh p w) → slice_get os i ≡ Some (Ok a)
         → (B : List (Page V)) → Book K (take i cs) (take i os) B → IsWeightInBook B p w a
-    -- b) an accepted compare among them told a verdict, which reports of its two tables as they
-    -- then lay
+    -- least difference: an accepted compare among them returned a verdict, which reports of its two
+    -- tables as they then lay
     pub compared : (i p q : ℕ) (a : Answer)
         → slice_get cs i ≡ Some (compare p q) → slice_get os i ≡ Some (Ok a)
         → (v : Verdict) × IsVerdictOn (after i) p q v a
@@ -162,21 +153,24 @@ module _ {V : Type 0} (K : FiniteField V) {F : Type 0} (value : F → V) where
     pub untouched : (p i j : ℕ) → i ≤ j → j ≤ length cs
         → ((k : ℕ) (c : Call) (o : Outcome) → i ≤ k → k < j
         → slice_get cs k ≡ Some c → slice_get os k ≡ Some o → ¬ (Changes c o p))
-        → Untouched p (after i) (after j)
-    -- c) what an accepted reduce among them left is the smallest there is, and the only one, for
-    -- as long as its place is untouched
+        → Untouched K value p (after i) (after j)
+    -- smallest form: what an accepted reduce among them left is the smallest there is, and the only
+    -- one, for as long as its place is untouched
     pub reduced : (i j p to : ℕ) (a : Answer) → i < j → j ≤ length cs
         → slice_get cs i ≡ Some (reduce p to) → slice_get os i ≡ Some (Ok a)
-        → Untouched to (after (suc i)) (after j) → Smallest (table K value (after j) to)
+        → Untouched K value to (after (suc i)) (after j) → Smallest (table K value (after j) to)
 
-  -- requested calls led from the state first, which is open, to t: they are a use that started
-  -- there, and it follows, where it came to and throughout
+  -- requested calls led from the state first, whose shelf is open, to t: they are a use that started
+  -- there, it follows where it came to, and throughout on the shelves of the states that they passed,
+  -- where each request was carried out with what it was given of what was lent
   pub record MadeFromOpen (first : State F) (rs : List Request) (os : List Outcome) (t : State F)
       : Type 0 where
     pub use_of : Opening K value (map call_in rs) os t.shelf
     pub starts : use_of.first ≡ first.shelf
     pub follows : Follows (map call_in rs) os t.shelf use_of
-    pub throughout : FollowsThroughout (map call_in rs) os t.shelf use_of
+    pub after : ℕ → State F
+    pub course : Course (CarriesOut K value) first rs os t after
+    pub throughout : FollowsThroughout (map call_in rs) os t.shelf use_of (λ i. (after i).shelf)
 
   -- so it is wherever requested calls were made from open
   abbrev pub RunFollows : State F → List Request → List Outcome → State F → Type 0
@@ -186,11 +180,21 @@ module _ {V : Type 0} (K : FiniteField V) {F : Type 0} (value : F → V) where
   pub record UsesFollowTheBook : Type 0 where
     pub every_use : (cs : List Call) (os : List Outcome) (s : Shelf F)
         (u : Opening K value cs os s) → Follows cs os s u
+    -- every use has a course of shelves, and on each course it follows throughout
+    pub courses : (first s : Shelf F) (cs : List Call) (os : List Outcome)
+        → Use K value first cs os s → (after : ℕ → Shelf F) × Course (Leads K value) first cs os s after
     pub throughout : (cs : List Call) (os : List Outcome) (s : Shelf F)
-        (u : Opening K value cs os s) → FollowsThroughout cs os s u
+        (u : Opening K value cs os s) (after : ℕ → Shelf F)
+        → Course (Leads K value) u.first cs os s after → FollowsThroughout cs os s u after
     -- requested calls, made one after another, are calls on one shelf, and from open they are a use
     pub runs : (first t : State F) (rs : List Request) (os : List Outcome)
         → Run K value first rs os t → Use K value first.shelf (map call_in rs) os t.shelf
+    -- they have a course of states, whose shelves are a course of the calls
+    pub run_courses : (first t : State F) (rs : List Request) (os : List Outcome)
+        → Run K value first rs os t → (after : ℕ → State F) × Course (CarriesOut K value) first rs os t after
+    pub course_of_calls : (first t : State F) (rs : List Request) (os : List Outcome) (after : ℕ → State F)
+        → Course (CarriesOut K value) first rs os t after
+        → Course (Leads K value) first.shelf (map call_in rs) os t.shelf (λ i. (after i).shelf)
     -- calls that go on where others came to are one list of calls with them
     pub joined : (first s t : Shelf F) (cs ds : List Call) (os ps : List Outcome)
         → Use K value first cs os s → Use K value s ds ps t
@@ -198,10 +202,14 @@ module _ {V : Type 0} (K : FiniteField V) {F : Type 0} (value : F → V) where
     -- and a requested one that is refused leaves all that was lent as it was
     pub refused_leaves : (s t : State F) (r : Request) (f : Refusal)
         → Does K value (given s r) (call_in r) (Err f) t → taken_back s r t ≡ s
-    -- c) every other table with the letter count and the weights of one that reduce left has at
-    -- least as many states
+    -- smallest form: every other table with the letter count and the weights of one that reduce left
+    -- has at least as many states
     pub fewest : (R : Table V) → Reduces R → HasFewestStates K R
     -- two such with one letter count, also from two uses, agree number for number exactly when they
     -- weigh every word alike
     pub one_form : (R S : Table V) → Reduces R → Reduces S → R.letters ≡ S.letters
         → SameTable R S ↔ Alike K R S
+    -- a call has one outcome and leaves one state, by value
+    pub settled : OutcomesAreSettled K value
+    -- load accepts the texts that write makes, and each undoes the other
+    pub round_trips : LoadAndWriteUndoEachOther K value

@@ -8,5 +8,6 @@ pub mod Verdicts
 pub mod Doing
 pub mod Using
 pub mod Running
-pub mod Law
+pub mod RoundTrips
 pub mod Settling
+pub mod Law

@@ -6,13 +6,28 @@ use Rattle.series.specs.Tables.{Table, weight}
 use Rattle.text.specs.Texts.{text_of}
 use Rattle.text.specs.Readings.{Sized}
 use Rattle.book.specs.Shelves.{Shelf, Lent, State, Opened, at_place, with_place}
-use Rattle.book.specs.Calls.{Call, load, sum, scale, multiply, after, turn, reduce, weigh, compare, write, clear}
+use Rattle.book.specs.Calls.{Call, load, sum, scale, multiply, after, turn, reduce, weigh, compare, write, clear, Among, results}
 use Rattle.book.specs.Doing.{Does}
 use Rattle.book.specs.Outcomes.{Outcome}
 
 -- a shelf in a call that is lent this
 abbrev pub lending : {F : Type 0} → Shelf F → Lent → State F
 lending s l = record { shelf = s; lent = l }
+
+-- what a list of steps passed, by how many of them were made: `first` is where it started, each step
+-- led from one to the next with its outcome, and `last` is where it came to
+pub record Course {X S : Type 0} (Step : S → X → Outcome → S → Type 0) (first : S) (xs : List X)
+    (os : List Outcome) (last : S) (after : ℕ → S) : Type 0 where
+  pub starts : after 0 ≡ first
+  pub as_many : length os ≡ length xs
+  pub steps : (i : ℕ) (x : X) (o : Outcome) → slice_get xs i ≡ Some x → slice_get os i ≡ Some o
+      → Step (after i) x o (after (suc i))
+  pub ends : after (length xs) ≡ last
+
+-- the call makes or clears the place; a refused one makes and clears none
+abbrev pub Changes : Call → Outcome → ℕ → Type 0
+Changes c (Err r) p = ⊥
+Changes c (Ok a) p = Among (results c) p
 
 module _ {V : Type 0} (K : FiniteField V) {F : Type 0} (value : F → V) where
   -- calls made one after another on one shelf, and what came of each; directory and shelf memory pass from call to call, and each call may be lent anything
@@ -36,18 +51,17 @@ module _ {V : Type 0} (K : FiniteField V) {F : Type 0} (value : F → V) where
     pub does : Does K value (lending s lent) c o left
     pub shelf : left.shelf ≡ t
 
-  -- the shelves that a use passed, told by how many of its calls were made: the first is where it started, each call led from one to the next, and s is the last
-  pub record Course (first : Shelf F) (cs : List Call) (os : List Outcome) (s : Shelf F) (after : ℕ → Shelf F) : Type 0 where
-    pub starts : after 0 ≡ first
-    pub as_many : length os ≡ length cs
-    pub calls : (i : ℕ) (c : Call) (o : Outcome) → slice_get cs i ≡ Some c → slice_get os i ≡ Some o → Leads (after i) c o (after (suc i))
-    pub ends : after (length cs) ≡ s
-
   -- a use that starts from open, with anything in shelf memory, and comes to s
   pub record Opening (cs : List Call) (os : List Outcome) (s : Shelf F) : Type 0 where
     pub first : Shelf F
     pub opened : Opened first
     pub uses : Use first cs os s
+
+  -- s leads to t by calls of which none makes or clears the place p
+  pub data Untouched (p : ℕ) (s : Shelf F) : Shelf F → Type 0 where
+    still : Untouched p s s
+    later : {t : Shelf F} → Untouched p s t → (l : Lent) (c : Call) (o : Outcome) (u : State F)
+        → Does K value (lending t l) c o u → ¬ (Changes c o p) → Untouched p s u.shelf
 
 -- an entry of the book, a page, is blank, or holds a letter count and the weight of every word
 pub data Page (V : Type 0) : Type 0 where

@@ -26,7 +26,8 @@ use Rattle.text.proofs.Limits.{block_fits}
 use Rattle.book.proofs.Blocks.{same_sym, same_trans, same_by_values}
 use Rattle.shelf.specs.Views.{shelf_of, state}
 use Rattle.packing.specs.Packing.{Reduction, Packs, Hindered}
-use Rattle.packing.proofs.Same.{text_same, reduced_table}
+use Rattle.text.proofs.SameTexts.{text_same}
+use Rattle.packing.proofs.Same.{reduced_table}
 use Rattle.packing.proofs.Hindrances.{first, second, memory_enough, work_enough, room_enough, never_reduce, never_compare, write_hindered}
 
 abbrev count_in : Answer → ℕ

@@ -7,3 +7,4 @@ pub mod Limits
 pub mod Told
 pub mod Decides
 pub mod Verdicts
+pub mod SameTexts
