@@ -1,5 +1,4 @@
--- What a function that makes a call does, and what comes of a request. Assumes nothing.
-use Rattle.std.specs.Prelude.{◌≡◌}
+-- What a function that makes a call does. Assumes nothing.
 use Rattle.field.specs.FiniteField.{FiniteField}
 use Rattle.series.specs.Tables.{Table, SameTable}
 use Rattle.rows.specs.declared.table.TableRef.{TableRef}
@@ -8,8 +7,6 @@ use Rattle.book.specs.Shelves.{Shelf, Lent, State}
 use Rattle.book.specs.Calls.{Call}
 use Rattle.book.specs.Doing.{Makes, Does}
 use Rattle.book.specs.Using.{lending}
-use Rattle.book.specs.Running.{call_in, given, taken_back}
-use Rattle.book.specs.declared.call.Request.{Request}
 use Rattle.book.specs.Outcomes.{Outcome}
 use Rattle.shelf.specs.declared.place.Place.{Place}
 
@@ -23,10 +20,3 @@ module _ {V : Type 0} (K : FiniteField V) {F : Type 0} (value : F → V) where
   Keeps made to before after =
       (l : Lent) (R : Table V) → SameTable (table_of K value made) R
       → Makes K value (lending before l) to.number R (lending after l)
-
-  -- the requested call does what it does with what it is given, and leaves the rest of what was
-  -- lent as it was
-  pub record TakenUp (s : State F) (r : Request) (o : Outcome) (t : State F) : Type 0 where
-    pub left : State F
-    pub does : Does K value (given s r) (call_in r) o left
-    pub back : t ≡ taken_back s r left

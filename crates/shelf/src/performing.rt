@@ -2,11 +2,10 @@
 ghost use Rattle.std.specs.Prelude.{◌≡◌, min, length, take, drop};
 ghost use Rattle.book.specs.Calls.{call_of};
 ghost use Rattle.book.specs.Doing.{Does};
-ghost use Rattle.book.specs.Running.{Run};
+ghost use Rattle.book.specs.Running.{CarriesOut, Run};
 ghost use Rattle.book.specs.Law.{RunFollows, UsesFollowTheBook};
 ghost use Rattle.book.specs.declared.outcome.Answer.TheVariants.{Done, Code, Told, Count};
 ghost use Rattle.shelf.specs.Views.{state, outcome_by};
-ghost use Rattle.shelf.specs.Performing.{TakenUp};
 
 use crate::directory::Directory;
 use book::call::{Call, Request};
@@ -67,7 +66,7 @@ impl Directory {
         verdict: &mut Verdict,
         request: &Request<'_>,
     ) -> Outcome
-        ensures taken_up { TakenUp F.field F.value
+        ensures carried_out { CarriesOut F.field F.value
             (state self.old shelf.old (length work.old) output.old verdict.old)
             request.now result
             (state self.new shelf.new (length work.new) output.new verdict.new) }

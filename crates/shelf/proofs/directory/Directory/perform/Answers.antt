@@ -18,7 +18,7 @@ loop-i-preserved g c =
           (state c.args.self.now c.args.shelf.now (length c.args.work.now) c.args.output.now c.args.verdict.now)
           (state c.loop-i.self c.loop-i.shelf (length c.loop-i.work) c.loop-i.output c.loop-i.verdict)
           (state c.take_up.new.self c.take_up.new.shelf (length c.take_up.new.work) c.take_up.new.output c.take_up.new.verdict)
-          (take n c.args.requests.now) c.loop-i.outcomes c.loop-i.i (record { call = Load (record { ref_ptr = (0, 0); now = [] }) 0; work = 0; output = 0 }) c.take_up.result c.loop-i-test.true room c.loop-i.invariant.0 c.take_up.ensures.taken_up,
+          (take n c.args.requests.now) c.loop-i.outcomes c.loop-i.i (record { call = Load (record { ref_ptr = (0, 0); now = [] }) 0; work = 0; output = 0 }) c.take_up.result c.loop-i-test.true room c.loop-i.invariant.0 c.take_up.ensures.carried_out,
       drop_more_set c.loop-i.outcomes c.args.outcomes.now c.loop-i.i c.take_up.result c.loop-i.invariant.1,
     )
 

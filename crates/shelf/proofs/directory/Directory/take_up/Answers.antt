@@ -15,7 +15,7 @@ returns g c =
     let out = c.args.output.now in
     let left = state c.make.new.self c.make.new.shelf (length c.make.new.work) c.make.new.output c.make.new.verdict in
     record {
-      taken_up = record {
+      carried_out = record {
         left = left;
         does = subst₂ (λ n o. Does K v (state c.args.self.now c.args.shelf.now n o c.args.verdict.now) (call_of r.call) c.make.result left)
             (length_min work r.work c.min-elements.result c.min-elements.ensures) (take_min out r.output c.min-bytes.result c.min-bytes.ensures) c.make.ensures.does;
