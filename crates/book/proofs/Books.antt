@@ -1,4 +1,4 @@
--- What a call does, and what the book hears of it. Assumes nothing.
+-- What a call does, and what it enters in the book. Assumes nothing.
 use Rattle.std.proofs.Common.{◌≡◌, ℕ, ◌≤◌, List, [], ◌∷◌, ◌++◌, reverse, length, sym, refl, ap, ◌∙◌, subst, ap₂, inl, inr, arith, Ok, Err}
 use Rattle.field.specs.FiniteField.{FiniteField}
 use Rattle.series.specs.Words.{Word, Over}
@@ -32,7 +32,7 @@ reduced_limits K T R lim c = record {
   letters = omega (arith, c.letters, lim.letters);
 }
 
--- a call made a table, and the book was told its weights; or it cleared a place, and the book was told; or both are as they were
+-- a call made a table, and its weights were entered; or it cleared a place, and its page was blanked; or both are as they were
 pub data InStep {V : Type 0} (K : FiniteField V) {F : Type 0} (value : F → V) (s t : State F) (B B' : List (Page V)) (Changed : ℕ → Type 0) : Type 0 where
   makes : (to : ℕ) (R : Table V) (j : ℕ) (f : Word → V) → Changed to → Place to → Limits R.states R.letters → R.letters ≡ j → Weighs K R f → Makes K value s to R t → B' ≡ with_place B to (holds j f) → InStep K value s t B B' Changed
   empties : (p : ℕ) → Changed p → Place p → Empties K value s p t → B' ≡ with_place B p blank → InStep K value s t B B' Changed
@@ -95,7 +95,7 @@ module _ {V : Type 0} (K : FiniteField V) {F : Type 0} (value : F → V) (told_a
     accepted B' (write p) a acc (d, x) e = rests x.shelf e
     accepted B' (clear p) a acc (d, x) e = empties p (inl refl) (placed K s (clear p) acc p (inl (inl refl))) x e
 
-    -- what a call did, and what the book heard of it
+    -- what a call did, and what it entered in the book
     pub heard : (B' : List (Page V)) (c : Call) (o : Outcome) → Does K value s c o t → Hears K B c o B' → InStep K value s t B B' (Changes c o)
     heard B' c (Err r) d e = rests (ap (λ z. z.shelf) d.1) e
     heard B' c (Ok a) d e = accepted B' c a d.0 d.1 e

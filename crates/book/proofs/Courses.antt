@@ -30,7 +30,7 @@ part_more : {X : Type 0} (xs : List X) (i n : ℕ) (x : X) → slice_get xs (i +
 part_more xs i n x e = subst (λ m. take m (drop i xs) ≡ take n (drop i xs) ++ x ∷ []) (add-one n) (take_more (drop i xs) n x (omega (arith, length-drop i xs, slice_get_within xs (i + n) x e)) ∙ ap (λ y. take n (drop i xs) ++ y ∷ []) (get_or-drop i xs n x ∙ get_or_from_slice_get xs (i + n) x x e))
 
 module _ {X S : Type 0} (Step : S → X → Outcome → S → Type 0) where
-  -- a course, told by the list of what was passed, the first included
+  -- a course, as the list of what was passed, the first included
   pub record Passed (first : S) (xs : List X) (os : List Outcome) (last : S) : Type 0 where
     pub all : List S
     pub one_more : length all ≡ length xs + 1

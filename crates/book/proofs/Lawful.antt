@@ -34,7 +34,7 @@ use Rattle.book.proofs.Courses.{use_passed, run_passed, course_of_calls, came, o
 use Rattle.book.proofs.Staying.{Stays, stays_table, stands_range, untouched_stays, use_memory}
 
 module _ {V : Type 0} (K : FiniteField V) (S T : Table V) where
-  -- what the verdict record says is what the law has it report
+  -- a verdict record on two tables reports of them as the law says
   says_reports : (v : Verdict) → Says K S T v → Reports K S T v
   says_reports v (inl a) = record {
     kinds = inl a.kind;

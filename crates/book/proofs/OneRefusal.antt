@@ -41,7 +41,7 @@ from_number (suc (suc (suc (suc (suc (suc (suc (suc zero)))))))) = CodeOutside
 from_number (suc (suc (suc (suc (suc (suc (suc (suc (suc zero))))))))) = OutputShort
 from_number (suc (suc (suc (suc (suc (suc (suc (suc (suc (suc n)))))))))) = PlaceOutside
 
--- a refusal is told by its number, or has number 7 and a position, or a number from 10 on and a fault
+-- a refusal is known by its number, or has number 7 and a position, or a number from 10 on and a fault
 data Sort (r : Refusal) : Type 0 where
   plain : r ≡ from_number (refusal_number r) → refusal_number r ≢ 7 → refusal_number r < 10 → Sort r
   letter : (i : ℕ) → r ≡ LetterOutside i → refusal_number r ≡ 7 → Sort r

@@ -34,7 +34,7 @@ IsFilled (filled n k) = Unit {0}
 filled_not_empty : (n k : ℕ) → filled n k ≢ empty
 filled_not_empty n k e = subst IsFilled e tt
 
--- the bytes that an answer counts
+-- the count of bytes in an answer
 abbrev counted : Answer → ℕ
 counted Done = 0
 counted (Code c) = 0

@@ -7,7 +7,7 @@ use Rattle.field.specs.Rows.{at}
 use Rattle.rows.specs.Layout.{table_size, table_at, matrix_offset, end_offset}
 use Rattle.rows.proofs.Memory.{frame_below, frame_above}
 use Rattle.book.specs.Shelves.{empty, filled, Lent, State, at_place, with_place, entry, states_of, letters_of, begins, table}
-use Rattle.book.specs.Doing.{Makes, Empties, Lends}
+use Rattle.book.specs.Doing.{Makes, Empties, KeepsShelf}
 use Rattle.book.specs.Settling.{SameState}
 use Rattle.book.proofs.Blocks.{same_sym, same_trans, values_by_same}
 
@@ -27,7 +27,7 @@ module _ {V : Type 0} (K : FiniteField V) {F : Type 0} (value : F → V) where
     table_equal p = tables_equal s.shelf.memory s'.shelf.memory e.numbers (begins p) (states_of (entry s.shelf p)) (letters_of (entry s.shelf p))
         ∙ ap (λ es. table_at K value s'.shelf.memory (begins p) (states_of (at_place empty es p)) (letters_of (at_place empty es p))) e.entries
 
-    pub lends_same : (l l' : Lent) (t t' : State F) → l ≡ l' → Lends K value s l t → Lends K value s' l' t' → SameState K value t t'
+    pub lends_same : (l l' : Lent) (t t' : State F) → l ≡ l' → KeepsShelf K value s l t → KeepsShelf K value s' l' t' → SameState K value t t'
     lends_same l l' t t' d x y = record {
       entries = ap (λ z. z.entries) x.shelf ∙ e.entries ∙ sym (ap (λ z. z.entries) y.shelf);
       length_same = ap (λ z. length z.memory) x.shelf ∙ e.length_same ∙ sym (ap (λ z. length z.memory) y.shelf);

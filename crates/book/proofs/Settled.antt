@@ -32,7 +32,7 @@ module _ {V : Type 0} (K : FiniteField V) {F : Type 0} (value : F → V) (told_a
     same : (p : ℕ) → table K value s.shelf p ≡ table K value s'.shelf p
     same p = table_equal K value s s' e p
 
-    -- both answer nothing, and make tables that agree
+    -- both return nothing, and make tables that agree
     make : (to : ℕ) (R R' : Table V) {a b d : Answer} → SameTable R R' → a ≡ d → b ≡ d → Makes K value s to R t → Makes K value s' to R' t' → (a ≡ b) × SameState K value t t'
     make to R R' agree x y m n = (x ∙ sym y, makes_same K value s s' e to R R' t t' agree m n)
 

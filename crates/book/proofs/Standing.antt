@@ -19,7 +19,7 @@ use Rattle.text.proofs.Limits.{block_fits}
 use Rattle.book.proofs.Blocks.{same_by_values}
 
 module _ {V : Type 0} (K : FiniteField V) {F : Type 0} (value : F → V) where
-  -- what lies at a place, and what the book says of it
+  -- what lies at a place, and the page of it
   abbrev pub Good : List F → ℕ → Entry → Page V → Type 0
   Good memory b empty blank = Unit {0}
   Good memory b empty (holds j f) = ⊥
@@ -87,12 +87,12 @@ module _ {V : Type 0} (K : FiniteField V) {F : Type 0} (value : F → V) where
       go p h (no u) = subst₂ (λ a b. Good t.memory (begins p) a b) (sym (ap (λ z. at_place empty z p) es ∙ at_other empty s.entries to p e u)) (sym (at_other blank B to p g u))
           (good_same s.memory t.memory (begins p) (entry s p) (page K B p) (old p h (λ d. u (sym d))) (i.good p h))
 
-  -- a table is written, and the book is told
+  -- a table is written, and its weights are entered
   pub made : (s t : State F) (B : List (Page V)) (to : ℕ) (R : Table V) (j : ℕ) (f : Word → V) → Stands s.shelf B → Place to → Limits R.states R.letters → R.letters ≡ j → Weighs K R f → Makes K value s to R t → Stands t.shelf (with_place B to (holds j f))
   made s t B to R j f i l lim same weighs x = changed s.shelf t.shelf B to (filled R.states R.letters) (holds j f) i l x.entries
       (lim, same, λ w o. same_weight K (table_at K value t.shelf.memory (begins to) R.states R.letters) R x.numbers.same w o ∙ weighs w o)
       (λ p h u. others_same s.shelf.memory t.shelf.memory p to R.states R.letters h l u lim x.numbers.frame)
 
-  -- a place is cleared, and the book is told
+  -- a place is cleared, and its page is blanked
   pub cleared : (s t : Shelf F) (B : List (Page V)) (p : ℕ) → Stands s B → Place p → t.entries ≡ with_place s.entries p empty → t.memory ≡ s.memory → Stands t (with_place B p blank)
   cleared s t B p i l e m = changed s t B p empty blank i l e tt (λ q h u k low high. ap (λ z. at K value z k) m)

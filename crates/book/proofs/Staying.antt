@@ -97,7 +97,7 @@ module _ {V : Type 0} (K : FiniteField V) {F : Type 0} (value : F → V) where
   step_length s t B B' Changed (empties q m l x e) = ap length x.memory
   step_length s t B B' Changed (rests d e) = ap (λ z. length z.memory) d
 
-  -- a call of a use, told with the use's book
+  -- a call of a use, with the use's book
   record Heard (s : Shelf F) (t : State F) (l : Lent) (Changed : ℕ → Type 0) : Type 0 where
     B : List (Page V)
     B' : List (Page V)

@@ -14,7 +14,7 @@ use Rattle.book.specs.Outcomes.{Outcome}
 use Rattle.book.proofs.Standing.{Good, Stands, made, cleared}
 use Rattle.book.proofs.Books.{InStep, makes, empties, rests, heard, hears_some, fed_last, fed_next}
 
--- a list that says one thing of every place
+-- a list with one element for every place
 at_all : {X : Type 0} (d : X) (n p : ℕ) → at_place d (replicate n d) p ≡ d
 at_all d n zero = refl
 at_all d n (suc i) = go (dec_lt i n)

@@ -19,7 +19,7 @@ pub data Call : Type 0 where
   write : (place : ℕ) → Call
   clear : (place : ℕ) → Call
 
--- the call that a value of the code's type tells, where `bytes` says what its text or word is
+-- the call that a value of the code's type stands for; `bytes` gives its text or word
 abbrev pub call_by : {B : Type 0} → (B → List ℕ) → CallCode B → Call
 call_by bytes (Load text to) = load (bytes text) to
 call_by bytes (Sum p q to) = sum p q to

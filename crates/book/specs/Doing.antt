@@ -38,7 +38,7 @@ module _ {V : Type 0} (K : FiniteField V) {F : Type 0} (value : F → V) where
     pub lent : t.lent ≡ s.lent
 
   -- the shelf is as before, and what was lent is this
-  pub record Lends (s : State F) (l : Lent) (t : State F) : Type 0 where
+  pub record KeepsShelf (s : State F) (l : Lent) (t : State F) : Type 0 where
     pub shelf : t.shelf ≡ s.shelf
     pub lent : t.lent ≡ l
 
@@ -46,7 +46,7 @@ module _ {V : Type 0} (K : FiniteField V) {F : Type 0} (value : F → V) where
   abbrev table_in : State F → ℕ → Table V
   table_in s p = table K value s.shelf p
 
-  -- what an accepted call answers, and what it leaves
+  -- what an accepted call returns, and what it leaves
   abbrev pub Leaves : State F → Call → Answer → State F → Type 0
   Leaves s (load text to) a t = (a ≡ Done) × ((R : Table V) × Sized R × (text ≡ text_of K R) × Makes s to R t)
   Leaves s (sum p q to) a t = (a ≡ Done) × Makes s to (sum_table K (table_in s p) (table_in s q)) t
@@ -55,9 +55,9 @@ module _ {V : Type 0} (K : FiniteField V) {F : Type 0} (value : F → V) where
   Leaves s (after p b to) a t = (a ≡ Done) × Makes s to (after_table K b (table_in s p)) t
   Leaves s (turn p to) a t = (a ≡ Done) × Makes s to (turned_table K (table_in s p)) t
   Leaves s (reduce p to) a t = (a ≡ Done) × ((R : Table V) × Reduced K (table_in s p).letters (weight K (table_in s p)) R × Makes s to R t)
-  Leaves s (weigh p w) a t = (a ≡ Code (K.code (weight K (table_in s p) w))) × Lends s s.lent t
-  Leaves s (compare p q) a t = (v : Verdict) × Says K (table_in s p) (table_in s q) v × (a ≡ Told v) × Lends s (with_verdict s.lent v) t
-  Leaves s (write p) a t = (a ≡ Count (length (text_of K (table_in s p)))) × Lends s (with_text s.lent (text_of K (table_in s p))) t
+  Leaves s (weigh p w) a t = (a ≡ Code (K.code (weight K (table_in s p) w))) × KeepsShelf s s.lent t
+  Leaves s (compare p q) a t = (v : Verdict) × Says K (table_in s p) (table_in s q) v × (a ≡ Told v) × KeepsShelf s (with_verdict s.lent v) t
+  Leaves s (write p) a t = (a ≡ Count (length (text_of K (table_in s p)))) × KeepsShelf s (with_text s.lent (text_of K (table_in s p))) t
   Leaves s (clear p) a t = (a ≡ Done) × Empties s p t
 
   -- a call is refused under the stated conditions, and then leaves all as it was, and otherwise does what is defined for it

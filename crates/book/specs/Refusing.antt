@@ -27,7 +27,7 @@ asks (write p) = (12544, 0)
 asks (clear p) = (0, 0)
 
 module _ {V : Type 0} (K : FiniteField V) {F : Type 0} (s : State F) where
-  -- how many states, and how many letters, the entry of a place tells
+  -- how many states, and how many letters, the entry of a place holds
   abbrev states_at : ℕ → ℕ
   states_at p = states_of (entry s.shelf p)
 

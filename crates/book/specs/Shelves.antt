@@ -10,12 +10,12 @@ use Rattle.book.specs.declared.verdict.Verdict.{Verdict}
 abbrev pub Place : ℕ → Type 0
 Place p = (1 ≤ p) × (p ≤ 8)
 
--- what a list says of place p, its first element of place 1: nothing of place 0, and nothing past its end
+-- the element of a list for place p, the first for place 1; `nothing` for place 0 and past its end
 abbrev pub at_place : {X : Type 0} → X → List X → ℕ → X
 at_place nothing xs zero = nothing
 at_place nothing xs (suc i) = slice_index_or xs i nothing
 
--- the list that says x of place p, and of the others the same
+-- the list with x for place p, and the others the same
 abbrev pub with_place : {X : Type 0} → List X → ℕ → X → List X
 with_place xs zero x = xs
 with_place xs (suc i) x = slice_set xs i x
@@ -25,12 +25,12 @@ pub data Entry : Type 0 where
   empty : Entry
   filled : (n k : ℕ) → Entry
 
--- how many states it tells
+-- how many states it holds
 abbrev pub states_of : Entry → ℕ
 states_of empty = 0
 states_of (filled n k) = n
 
--- how many letters it tells
+-- how many letters it holds
 abbrev pub letters_of : Entry → ℕ
 letters_of empty = 0
 letters_of (filled n k) = k

@@ -97,7 +97,7 @@ module _ {V : Type 0} (K : FiniteField V) where
   Enters B (write p) B' = B' ≡ B
   Enters B (clear p) B' = B' ≡ with_place B p blank
 
-  -- the book hears a call and whether it was accepted; a refused one leaves it as it is
+  -- the book is given a call and whether it was accepted; a refused one leaves it as it is
   abbrev pub Hears : List (Page V) → Call → Outcome → List (Page V) → Type 0
   Hears B c (Err r) B' = B' ≡ B
   Hears B c (Ok a) B' = Enters B c B'

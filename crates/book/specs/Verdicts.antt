@@ -1,4 +1,4 @@
--- What the verdict record says of two tables. Assumes nothing.
+-- The verdict record on two tables. Assumes nothing.
 use Rattle.std.specs.Prelude.{◌≡◌, ℕ, ◌-◌, ◌⊎◌, ◌++◌, length, take, replicate}
 use Rattle.field.specs.FiniteField.{FiniteField}
 use Rattle.series.specs.Words.{Word, ◌≺◌}

@@ -1,5 +1,6 @@
-//! What the calls on a shelf of tables mean, and the law that every list of them follows. Nothing is carried out here:
-//! the types are those that calls are told by, and a theorem is a function without an argument, whose promise it is.
+//! What the calls on a shelf of tables mean, and the law that every list of them follows. Here are the types of calls,
+//! outcomes and verdicts; the crate `shelf` carries out the calls. A theorem is a function without arguments that does
+//! nothing: its contract is the theorem.
 #![tactic(auto)]
 
 pub mod call;

@@ -2,8 +2,8 @@
 use crate::refusal::Refusal;
 use crate::verdict::Verdict;
 
-/// What an accepted call answers: weigh a code, compare a copy of the verdict that it wrote, write a count of bytes, and
-/// every other call nothing. The verdict is copied because a list may hold several compares that are lent one record.
+/// What an accepted call returns: weigh a code, compare a copy of the verdict that it wrote, write a count of bytes, and
+/// every other call nothing. The verdict is copied because several compares in a list may write into one record.
 #[derive(Clone, Copy, Debug, PartialEq, Eq)]
 pub enum Answer {
     Done,

@@ -1,4 +1,4 @@
-//! What a comparison of two tables says.
+//! The verdict on two tables.
 ghost use Rattle.std.specs.Prelude.{◌≡◌};
 ghost use Rattle.book.specs.Verdicts.{kind_number, unwritten};
 
@@ -11,7 +11,6 @@ pub enum Kind {
 
 impl Kind {
     /// The kind's number, 0 or 1.
-    // A method, as a refusal's: its name says that it is the number of the record's form, which has a number for the kind.
     pub fn number(self) -> u8
         ensures numbered { result ≡ kind_number self }
     {
@@ -25,7 +24,7 @@ impl Kind {
 /// The record that compare writes. Alike: so many words were tried and kept, and the rest is 0. Differs: the word
 /// reported, with its length, the codes of its weights and its letters, unused places 0; tried counts up to it, itself
 /// counted, and kept is 0.
-// No enum with what belongs to each kind: the record's form, with zeros in unused places, is the product's.
+// The record's form, with zeros in unused places, is the product's.
 #[derive(Clone, Copy, Debug, PartialEq, Eq)]
 pub struct Verdict {
     pub kind: Kind,
@@ -34,13 +33,12 @@ pub struct Verdict {
     pub length: usize,
     pub first: u64,
     pub second: u64,
-    // Not a vector: the record's form is the product's, 31 places beside a length, and a reported word has no more letters.
+    // 31 places: a reported word has fewer letters than both tables have states together, which is at most 32.
     pub letters: [u8; 31],
 }
 
 impl Verdict {
     /// A record to which nothing is written yet.
-    // Not `Default`, which is no plainer: that alike is the kind of such a record is said here, where its name is.
     pub fn blank() -> Verdict
         ensures all_zero { result ≡ unwritten }
     {

@@ -10,7 +10,7 @@ use Rattle.book.specs.declared.refusal.Refusal.TheVariants.{PlaceEmpty}
 use Rattle.shelf.specs.Checking.{Found, Vacant}
 use Rattle.shelf.specs.declared.place.Place.{Place as PlaceCode}
 
--- what is found at a place, or that nothing is, told of its number
+-- what is found at a place, or that nothing is, stated of its number
 module _ (es : List Entry) (x : PlaceCode) (p : ℕ) (e : x.number ≡ p) where
   pub found_at : {F : Type 0} (memory : List F) (t : TableRef F) → Found es memory x.number t → Found es memory p t
   found_at memory t h = subst (λ n. Found es memory n t) e h

@@ -21,7 +21,7 @@ pub of_two : (P : ℕ → Type 0) {p r : ℕ} → P p → P r → (q : ℕ) → 
 of_two P h l q (inl e) = subst P (sym e) h
 of_two P h l q (inr m) = of_one P l q m
 
--- a number that is told as a place is one; so are one or two such numbers
+-- a number that was taken for a place is one; so are one or two such numbers
 place_of : (x : PlaceCode) (p : ℕ) → x.number ≡ p → Place p
 place_of x p e = subst Place e x.within
 
@@ -47,7 +47,7 @@ abbrev Full : Entry → Type 0
 Full empty = ⊥
 Full (filled n k) = Unit {0}
 
--- an entry that tells a size is not empty
+-- an entry that holds a size is not empty
 pub not_empty : (e : Entry) (n k : ℕ) → e ≡ filled n k → e ≢ empty
 not_empty e n k a b = subst Full (sym a ∙ b) tt
 

@@ -94,7 +94,7 @@ module _ {V : Type 0} (K : FiniteField V) {F : Type 0} (s : State F) where
     pub weigh_refuses : (i : ℕ) → FirstOutside (letters_of (entry s.shelf p)) w i → Refuses K s (weigh p w) (LetterOutside i)
     weigh_refuses i h = record { meets = weigh_letter h; first = λ o m. let e = late K s (weigh p w) o m (past o m) in omega (arith, e.0) }
 
-  -- of a text only one fault is told
+  -- a text has one fault
   module _ (text : List ℕ) (to : ℕ) (past : Passed K s (load text to) 4) where
     pub load_accepts : (T : Table V) → Sized T → text ≡ text_of K T → Accepts K s (load text to)
     load_accepts T sized is o m = let e = late K s (load text to) o m (past o m) in (decided K text).0 T e.0 sized is e.2

@@ -31,7 +31,7 @@ module _ {V : Type 0} (K : FiniteField V) {F : Type 0} (v : F → V) where
   table_in_front : (t : TableRef F) (xs : List F) (z : Shape) → t.shape ≡ z → (t.memory.now ≡ xs) × (t.base ≡ 0) → table_of K v t ≡ table_at K v xs 0 z.states z.letters
   table_in_front t xs z e (m, b) = ap₂ (λ u i. table_at K v u i t.shape.states t.shape.letters) m b ∙ ap (λ y. table_at K v xs 0 y.states y.letters) e
 
-  -- the same by values, with the numbers of states and letters told otherwise
+  -- the same by values, with other expressions for the numbers of states and letters
   pub seen_front : (t : TableRef F) (xs : List F) (z : Shape) (n k : ℕ) → t.shape ≡ z → (t.memory.now ≡ xs) × (t.base ≡ 0) → z.states ≡ n → z.letters ≡ k → SameTable (table_of K v t) (table_at K v xs 0 n k)
   seen_front t xs z n k e front a b = subst (λ S. SameTable S (table_at K v xs 0 n k)) (sym (table_in_front t xs z e front ∙ ap₂ (λ i j. table_at K v xs 0 i j) a b)) (same_refl (table_at K v xs 0 n k))
 
@@ -39,7 +39,7 @@ module _ {V : Type 0} (K : FiniteField V) {F : Type 0} (v : F → V) where
   seen_held : (t : TableRef F) (xs : List F) (z : Shape) (T : Table V) → t.shape ≡ z → (t.memory.now ≡ xs) × (t.base ≡ 0) → z.states ≡ T.states → z.letters ≡ T.letters → HoldsTable K v T xs → SameTable (table_of K v t) T
   seen_held t xs z T e front n k h = subst (λ S. SameTable S T) (sym (table_in_front t xs z e front ∙ ap₂ (λ i j. table_at K v xs 0 i j) n k)) h.same
 
-  -- built in work memory, copied, and told in the entry: made
+  -- built in work memory, copied, and its shape written into the entry: made
   pub made : (es es' : List Entry) (mem mem' work work' : List F) (to : ℕ) (M R R' : Table V) → SameTable M R → R ≡ R' → {at : ℕ} → at ≡ to
       → ((l : Lent) (T : Table V) → SameTable M T → Makes K v (lending (shelf_of es mem) l) at T (lending (shelf_of es' mem') l))
       → length work' ≡ length work → (out : List ℕ) (verdict : Verdict) → Makes K v (state es mem (length work) out verdict) to R' (state es' mem' (length work') out verdict)

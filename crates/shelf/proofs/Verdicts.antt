@@ -1,4 +1,4 @@
--- The verdict record of a comparison says how the tables compare. Assumes nothing.
+-- The verdict record of a comparison is right of the tables. Assumes nothing.
 use Rattle.std.proofs.Common.{◌≡◌, ◌-◌, ◌≤◌, ◌++◌, length, replicate, sym, refl, ap, ◌∙◌, inl, inr, arith, take-append-drop, length-take-le}
 use Rattle.field.specs.FiniteField.{FiniteField}
 use Rattle.series.specs.Tables.{Table}

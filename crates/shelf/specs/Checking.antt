@@ -40,7 +40,7 @@ module _ {V : Type 0} (K : FiniteField V) {F T : Type 0} (s : Lent → State F) 
   abbrev pub ChecksTwo : ℕ → ℕ → ℕ → Result T Refusal → Type 0
   ChecksTwo p q to r = (c : Call) (rest : Lent) → Pairs c p q to → Checked K (s rest) c 5 r
 
--- t is the table that the entries tell of place p, in shelf memory
+-- t is the table of place p, by its entry, in shelf memory
 pub record Found {F : Type 0} (entries : List Entry) (memory : List F) (p : ℕ) (t : TableRef F) : Type 0 where
   pub told : at_place empty entries p ≡ filled t.shape.states t.shape.letters
   pub in_memory : t.memory.now ≡ memory

@@ -47,13 +47,13 @@ verdict_state entries memory work verdict rest =
 abbrev pub output_state : {F : Type 0} → List Entry → List F → List ℕ → Lent → State F
 output_state entries memory output rest = state entries memory rest.work output rest.verdict
 
--- what comes of a call, by what the function returns; `tells` makes an answer of what it returns
--- when it is not refused
+-- what comes of a call, by what the function returns; `answer` makes an answer of what it
+-- returns when it is not refused
 abbrev pub outcome_by : {T : Type 0} → (T → Answer) → Result T Refusal → Outcome
-outcome_by tells (Ok x) = Ok (tells x)
-outcome_by tells (Err r) = Err r
+outcome_by answer (Ok x) = Ok (answer x)
+outcome_by answer (Err r) = Err r
 
--- the same of a function that answers nothing
+-- the same of a function that returns nothing
 abbrev pub outcome_of : Result (Unit {0}) Refusal → Outcome
 outcome_of r = outcome_by (λ _. Done) r
 

@@ -12,7 +12,6 @@ use rows::table::TableRef;
 use walk::pairs::Pair;
 
 /// Whether shelf memory and work memory have the elements that a call asks for.
-// A fact, not a type that lends both: calls read the one while they write the other, and promise of each what it holds.
 pub fn room(shelf: usize, work: usize) -> Result<(), Refusal>
     ensures ok { OnOk result (Room shelf work) }
     ensures err { IfErr result (Short shelf work) }
@@ -41,7 +40,7 @@ impl Directory {
         Ok(TableRef::at(shelf, place.begins(), shape))
     }
 
-    /// The checks of a call that reads one table and names one place more, which is told with the table.
+    /// The checks of a call that reads one table and names one place more, which is returned with the table.
     pub(crate) fn one_table<'a, F: Field>(
         &self,
         shelf: &'a [F],
@@ -63,7 +62,7 @@ impl Directory {
     }
 
     /// The checks of a call that reads two tables, which have to have one letter count, and names one place more,
-    /// which is told with the tables.
+    /// which is returned with the tables.
     pub(crate) fn two_tables<'a, F: Field>(
         &self,
         shelf: &'a [F],

@@ -1,4 +1,4 @@
-//! What the directory tells of a place.
+//! The directory's entry for a place.
 ghost use Rattle.std.specs.Prelude.{◌≡◌, Some, Option};
 ghost use Rattle.rows.specs.declared.table.Shape.{Shape};
 
@@ -6,7 +6,7 @@ use rows::table::Shape;
 use std::marker::Model;
 
 /// Empty, or the shape of the table at the place.
-// Not an `Option` itself: the directory's form is the product's, an array of eight entry structs.
+// The directory's form, an array of eight entry structs, is the product's.
 #[derive(Clone, Copy)]
 pub struct Entry {
     shape: Option<Shape>,

@@ -16,7 +16,7 @@ use rows::table::{Shape, TableRef};
 use text::table::read_table;
 
 impl Directory {
-    // A finished table, copied to a place, whose entry then tells its shape.
+    // Copies a finished table to a place, and writes its shape into the entry.
     fn keep<F: Field>(&mut self, shelf: &mut [F], made: TableRef<'_, F>, to: Place)
         requires shelf_whole { 12544 ≤ length shelf.old }
         ensures kept { Keeps F.field F.value made.entry to
@@ -28,7 +28,6 @@ impl Directory {
         self.set(to, Entry::of(shape));
     }
 
-    // Turn, scale and after share `one_table` and `keep`; what stands between them, and is promised, is another function for each.
     /// Makes the table of a place turned: it weighs each word as that one weighs the word read backwards.
     pub fn turn<F: Field>(
         &mut self,
@@ -128,7 +127,6 @@ impl Directory {
         Ok(())
     }
 
-    // Sum and multiply stay apart: one function for both would take two closures, and promise a call of neither.
     /// Makes the sum of the tables of two places: it weighs each word as both together.
     pub fn sum<F: Field>(
         &mut self,

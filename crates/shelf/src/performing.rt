@@ -1,4 +1,4 @@
-//! Calls told by value, made one after another.
+//! Calls given as values, made one after another.
 ghost use Rattle.std.specs.Prelude.{◌≡◌, min, length, take, drop};
 ghost use Rattle.book.specs.Calls.{call_of};
 ghost use Rattle.book.specs.Doing.{Does};
@@ -16,7 +16,6 @@ use field::Field;
 
 impl Directory {
     /// Makes one call.
-    // An enum and its match: closures for the calls would each have to be told in the promise.
     pub fn make<F: Field>(
         &mut self,
         shelf: &mut [F],
@@ -82,8 +81,8 @@ impl Directory {
         )
     }
 
-    /// Makes the requested calls one after another, as many as `outcomes` has room for: how many. Each is given the front
-    /// of the one work memory and output that are lent, and all write their verdicts into the one record.
+    /// Makes the requested calls one after another, as many as `outcomes` has room for, and returns how many. Each is given
+    /// the front of the one work memory and output that are lent, and all write their verdicts into the one record.
     pub fn perform<F: Field>(
         &mut self,
         shelf: &mut [F],
@@ -105,7 +104,7 @@ impl Directory {
             (state self.new shelf.new (length work.new) output.new verdict.new) }
         ensures law { UsesFollowTheBook F.field F.value }
     {
-        // Holds the law that the contract states; nothing is done.
+        // The law that this function promises is this call's contract; it does nothing.
         uses_follow_the_book::<F>();
         let count = requests.len().min(outcomes.len());
         let asked = &requests[..count];

@@ -15,7 +15,7 @@ use rows::weight;
 use search::compare::Comparison;
 use writer::{text_size, write_table};
 
-// The verdict record of a comparison. Both types are of other crates, so this is no `From`.
+// The verdict record of a comparison.
 fn verdict_of(found: Comparison) -> Verdict
     ensures tells { result ≡ verdict_on found }
     ensures letters_31 { length result.letters ≡ 31 }
@@ -47,7 +47,7 @@ fn verdict_of(found: Comparison) -> Verdict
 }
 
 impl Directory {
-    /// The code of a word's weight under the table of a place.
+    /// Returns the code of a word's weight under the table of a place.
     pub fn weigh<F: Field>(
         &self,
         shelf: &[F],
@@ -63,7 +63,7 @@ impl Directory {
         Ok(weight.code())
     }
 
-    /// Writes the text of the table of a place to the front of the output: how many bytes it has.
+    /// Writes the text of the table of a place to the front of the output, and returns how many bytes it has.
     pub fn write<F: Field>(
         &self,
         shelf: &[F],
@@ -85,7 +85,7 @@ impl Directory {
         Ok(write_table(table, output))
     }
 
-    /// Compares the tables of two places: writes the verdict on them.
+    /// Compares the tables of two places, and writes the verdict on them.
     pub fn compare<F: Field>(
         &self,
         shelf: &[F],

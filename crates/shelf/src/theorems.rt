@@ -1,11 +1,10 @@
 //! What holds of the calls over every lawful field, held by functions that do nothing else.
-ghost use Rattle.book.specs.Calls.{clear};
 ghost use Rattle.shelf.specs.Clearing.{ClearsAsCalled};
 
 use field::Field;
 
-/// What clear does with the entries, which is all that it is handed, is what the call clear does on a shelf over any
-/// field.
+/// Clear is handed the entries alone, and no field: what it does with them is what the call clear does on a shelf over
+/// any field.
 pub fn clear_does_the_call<F: Field>()
-    ensures clears_as_called { ClearsAsCalled F.field F.value (λ p. clear p) }
+    ensures clears_as_called { ClearsAsCalled F.field F.value }
 {}

@@ -36,7 +36,7 @@ pub const NOTHING: Lent = Lent {
     output: 0,
 };
 
-/// An accepted call that answers nothing.
+/// An accepted call that returns nothing.
 pub const DONE: Outcome = Ok(Answer::Done);
 
 /// A verdict record that no compare writes.

@@ -68,7 +68,7 @@ const OVER_FERMAT: Known = Known {
 // The word of seven letters.
 const SEVEN: &[u8] = &[1; 7];
 
-// The two tables of which this is told weigh the word 1 2 differently, zero and one, and no word before it.
+// The two tables of this verdict weigh the word 1 2 differently, zero and one, and no word before it.
 const TURNED: Verdict = Verdict {
     kind: Kind::Differs,
     tried: 5,

@@ -64,7 +64,7 @@ impl<F: Field, A: Abort + Copy> Bench<F, A> {
         );
     }
 
-    // Shelf memory, work memory and an empty place are told in this order, one element short of each limit. Load is
+    // Shelf memory, work memory and an empty place are reported in this order, one element short of each limit. Load is
     // refused before its text is read.
     fn check_short(&mut self) {
         let shelf = Lent {
@@ -110,7 +110,7 @@ impl<F: Field, A: Abort + Copy> Bench<F, A> {
         self.check_refused(short_shelf, Refusal::PlaceEmpty, &[clear(8)]);
     }
 
-    // Letter counts that differ are told before states over 16.
+    // Letter counts that differ are reported before states over 16.
     fn check_pairs(&mut self) {
         self.check_refused(
             ALL,
@@ -134,7 +134,7 @@ impl<F: Field, A: Abort + Copy> Bench<F, A> {
         );
     }
 
-    // The first letter outside the table's letters is told with its position; a code of q or more.
+    // The first letter outside the table's letters is reported with its position; a code of q or more.
     fn check_letters(&mut self) {
         self.check_refused(
             ALL,

@@ -6,7 +6,7 @@ use book::verdict::Kind;
 use faults::{ColumnFault, LineFault, LoadFault, Position};
 use std::test::Fail;
 
-// The number of each reason, which the C interface and the programs tell, and line and column where a text is at fault.
+// The number of each reason, which the C interface and the programs print, and line and column where a text is at fault.
 #[test]
 fn refusals_as_numbers(rt: HostRuntime) {
     let at = Position { line: 6, column: 3 };
