@@ -1,2 +1,4 @@
 pub mod Laws
 pub mod Rows
+pub mod Below
+pub mod Tests

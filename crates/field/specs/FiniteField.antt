@@ -1,4 +1,4 @@
--- A finite field: a type of values, its operations, their laws, and a number for each value. Assumes nothing.
+-- A finite field: values, operations, their laws, and a number for each value. Assumes nothing.
 use Rattle.std.specs.Prelude.{◌≡◌, ℕ, ◌<◌, ◌≤◌, ◌≢◌}
 
 pub record FiniteField (V : Type 0) : Type 0 where

@@ -1,4 +1,5 @@
 pub mod FiniteField
+pub mod Elements
 pub mod Below
 pub mod Sums
 pub mod Rows

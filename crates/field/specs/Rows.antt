@@ -28,15 +28,29 @@ module _ {F V : Type 0} (K : FiniteField V) (value : F → V) where
   abbrev pub row_less_multiple : List F → V → List F → ℕ → V
   row_less_multiple xs factor ys = less_multiple K (at xs) factor (at ys)
 
-  -- the row xs, from which the first rows of ms are taken one after another: each as often as what is left has at its pivot
+  -- the row xs less the first rows of ms, one for each pivot
   abbrev pub row_less_rows : List F → List F → List ℕ → ℕ → V
-  row_less_rows xs ms pivots = less_rows K (length pivots) (square_at ms 0 (length xs)) (λ b. slice_index pivots b) (at xs)
+  row_less_rows xs ms pivots =
+      less_rows K (length pivots) (square_at ms 0 (length xs)) (λ b. slice_index pivots b) (at xs)
 
 -- the first n entries of two rows are the same
 abbrev pub Agree : {V : Type 0} → ℕ → (ℕ → V) → (ℕ → V) → Type 0
 Agree n x y = (i : ℕ) → i < n → x i ≡ y i
 
--- xs has n elements, with the values of the row x
-pub record RowOf {F V : Type 0} (K : FiniteField V) (value : F → V) (n : ℕ) (x : ℕ → V) (xs : List F) : Type 0 where
-  pub len : length xs ≡ n
-  pub same : Agree n (at K value xs) x
+module _ {F V : Type 0} (K : FiniteField V) (value : F → V) where
+  -- xs has n elements, with the values of the row x
+  pub record RowOf (n : ℕ) (x : ℕ → V) (xs : List F) : Type 0 where
+    pub len : length xs ≡ n
+    pub same : Agree n (at K value xs) x
+
+  -- `to` is the row xs times the matrix ms
+  abbrev pub ProductWritten : List F → List F → List F → Type 0
+  ProductWritten xs ms to = RowOf (length xs) (matrix_product K value xs ms) to
+
+  -- `to` is the row xs less the factor times the row ys
+  abbrev pub MultipleTaken : List F → F → List F → List F → Type 0
+  MultipleTaken xs c ys to = RowOf (length xs) (row_less_multiple K value xs (value c) ys) to
+
+  -- `to` is the row xs less the first rows of ms, one for each pivot
+  abbrev pub RowsTaken : List F → List F → List ℕ → List F → Type 0
+  RowsTaken xs ms pivots to = RowOf (length xs) (row_less_rows K value xs ms pivots) to

@@ -1,10 +1,11 @@
-//! A finite field as an interface. Its meaning is the value that each element stands for; several elements may stand
-//! for one value, and what a function answers depends on values alone.
+//! A finite field as an interface. Its meaning is the value that each element stands for. Several
+//! elements may stand for one value; what a function returns depends on values alone.
 #![tactic(auto)]
 
-ghost use Rattle.std.specs.Prelude.{◌≡◌, ℕ, ◌+◌, ◌*◌, ◌<◌, ◌≤◌, length, slice_index, Decides, MatchOption, ◌≢◌};
+ghost use Rattle.std.specs.Prelude.{◌≡◌, ℕ, ◌+◌, ◌*◌, ◌<◌, ◌≤◌, length, slice_index, EachIndex, Decides};
 ghost use Rattle.field.specs.FiniteField.{FiniteField};
-ghost use Rattle.field.specs.Rows.{RowOf, column_product, matrix_product, row_less_multiple, row_less_rows};
+ghost use Rattle.field.specs.Elements.{IsInverse, IsDecoded};
+ghost use Rattle.field.specs.Rows.{column_product, ProductWritten, MultipleTaken, RowsTaken};
 
 pub trait Field: Copy {
     // The values that elements stand for.
@@ -33,7 +34,7 @@ pub trait Field: Copy {
 
     // Nothing exactly for zero.
     fn inverse(self) -> Option<Self>
-        ensures is_inverse_unless_zero { MatchOption result (value self ≡ field.zero) (λ i. (value self ≢ field.zero) × (value i ≡ field.inverse (value self))) };
+        ensures is_inverse_unless_zero { IsInverse field value (value self) result };
 
     // Whether two elements stand for one value.
     fn same(self, other: Self) -> bool
@@ -44,14 +45,14 @@ pub trait Field: Copy {
 
     // An element of this code, or nothing exactly where the code is q or more.
     fn from_code(n: u64) -> Option<Self>
-        ensures is_decoded_below_order { MatchOption result (field.q ≤ n) (λ x. (n < field.q) × (value x ≡ field.decode n)) };
+        ensures is_decoded_below_order { IsDecoded field value n result };
 
     // The number of values, q.
     fn order() -> u64
         ensures is_order { result ≡ field.q };
 
-    // The methods below have bodies that rest on the laws alone: a field owes none of them, and one that knows a faster
-    // way writes its own.
+    // The methods below have bodies that use the methods above alone. An implementation may replace
+    // them by faster ones.
 
     /// The row times the column of `ys` whose elements lie `step` apart from `column` on.
     fn dot(row: &[Self], ys: &[Self], column: usize, step: usize) -> Self
@@ -69,7 +70,7 @@ pub trait Field: Copy {
     fn row_times_matrix(row: &[Self], matrix: &[Self], to: &mut [Self])
         requires square { length matrix.now ≡ length row.now * length row.now }
         requires as_long { length to.old ≡ length row.now }
-        ensures product_written { RowOf field value (length row.now) (matrix_product field value row.now matrix.now) to.new }
+        ensures product_written { ProductWritten field value row.now matrix.now to.new }
     {
         for (j, x) in to.iter_mut().enumerate() {
             *x = Self::dot(row, matrix, j, row.len());
@@ -79,7 +80,7 @@ pub trait Field: Copy {
     /// Takes `factor` times another row from the row.
     fn subtract_multiple(row: &mut [Self], factor: Self, other: &[Self])
         requires as_long { length other.now ≡ length row.old }
-        ensures difference_written { RowOf field value (length row.old) (row_less_multiple field value row.old (value factor) other.now) row.new }
+        ensures difference_written { MultipleTaken field value row.old factor other.now row.new }
     {
         // `other[j]`: after a `zip` with `iter_mut` nothing is known of the elements.
         for (j, x) in row.iter_mut().enumerate() {
@@ -87,12 +88,12 @@ pub trait Field: Copy {
         }
     }
 
-    /// Takes from the row, one after another, the first rows of `rows`, one for each pivot: each as often as what is
-    /// left of the row has at that pivot.
+    /// Takes from the row, one after another, the first rows of `rows`, one for each pivot: each as
+    /// often as what is left of the row has at that pivot.
     fn subtract_rows(row: &mut [Self], rows: &[Self], pivots: &[usize])
         requires rows_within { length pivots.now * length row.old ≤ length rows.now }
-        requires pivots_within { (b : ℕ) → b < length pivots.now → slice_index pivots.now b < length row.old }
-        ensures rest_written { RowOf field value (length row.old) (row_less_rows field value row.old rows.now pivots.now) row.new }
+        requires pivots_within { EachIndex pivots.now (λ b. slice_index pivots.now b < length row.old) }
+        ensures rest_written { RowsTaken field value row.old rows.now pivots.now row.new }
     {
         let n = row.len();
         for (b, pivot) in pivots.iter().enumerate() {

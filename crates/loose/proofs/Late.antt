@@ -3,7 +3,7 @@ use Rattle.std.proofs.Common.{◌≡◌, ℕ, ◌%◌, sym, ap, ◌∙◌, mod-e
 use native.Mathlib.Nat.{mod-mod}
 use Rattle.field.specs.Below.{Below, same_below}
 use Rattle.residue.specs.Prime.{Prime}
-use Rattle.residue.specs.Residues.{residue_of, residue_zero, inverse_of}
+use Rattle.residue.specs.Operations.{residue_of, residue_zero, inverse_of}
 
 module _ {p : ℕ} (pr : Prime p) (n : ℕ) (x : Below p) (code : ℕ) (is : code ≡ n % p) (read : x ≡ residue_of p pr code) where
   pub reads : residue_of p pr n ≡ x

@@ -4,7 +4,8 @@
 
 ghost use Rattle.std.specs.Prelude.{◌≡◌, ℕ, ◌^◌, ◌<◌, ◌≤◌};
 ghost use Rattle.field.specs.Below.{Below};
-ghost use Rattle.residue.specs.Residues.{residue_of, residues};
+ghost use Rattle.residue.specs.Operations.{residue_of};
+ghost use Rattle.residue.specs.Residues.{residues};
 
 use field::Field;
 use residue::{PrimeModulus, Residue};

@@ -2,7 +2,7 @@
 use Rattle.std.proofs.Common.{◌≡◌, ℕ, zero, suc, ◌+◌, ◌*◌, ◌%◌, ◌<◌, ◌≤◌, List, [], ◌∷◌, length, take, get_or, set, sym, ap, ap₂, ◌∙◌, subst, ⊎_elim, mod-eq_of_lt, arith}
 use Rattle.std.proofs.Math.Nat.{add-mod}
 use Rattle.std.proofs.lemmas.Bool.{cases_eq, cases_lt}
-use Rattle.std.proofs.lemmas.Nat.{mul-le}
+use Rattle.std.proofs.lemmas.Nat.{mul-le, mul-mod}
 use Rattle.std.proofs.lemmas.List.{get_or-map, get_or-set_same, get_or-set_other, get_or-take, get_or_past, length-take}
 use Rattle.field.specs.Below.{Below, same_below}
 use Rattle.field.specs.Rows.{at, Agree, RowOf}
@@ -10,8 +10,8 @@ use Rattle.field.specs.Sums.{move, less_rows}
 use Rattle.field.proofs.Laws.{neg_times, one_times, zero_plus}
 use Rattle.field.proofs.Rows.{sum_more, less_rows_more}
 use Rattle.residue.specs.Prime.{Prime}
-use Rattle.residue.specs.Remainders.{mul_mod_l, mul_mod_r}
-use Rattle.residue.specs.Residues.{residues, residue_of, positive}
+use Rattle.residue.specs.Operations.{residue_of, positive}
+use Rattle.residue.specs.Residues.{residues}
 use Rattle.residue.specs.Sums.{UpTo, plus_multiple}
 
 module _ {p : ℕ} (pr : Prime p) where
@@ -19,7 +19,7 @@ module _ {p : ℕ} (pr : Prime p) where
   residue_plus a b = same_below _ _ (add-mod a b p)
 
   pub residue_times : (a b : ℕ) → residue_of p pr (a * b) ≡ (residues p pr).times (residue_of p pr a) (residue_of p pr b)
-  residue_times a b = same_below _ _ (sym (mul_mod_l p a (b % p) ∙ mul_mod_r p a b))
+  residue_times a b = same_below _ _ (mul-mod a b p)
 
   -- an element stands for its own residue
   pub residue_same : (x : Below p) → residue_of p pr x.n ≡ x

@@ -2,10 +2,10 @@
 use Rattle.field.specs.FiniteField.{FiniteField}
 use Rattle.field.specs.Below.{Below}
 use Rattle.residue.specs.Prime.{Prime}
-use Rattle.residue.specs.Primality.{prime_by}
+use Rattle.residue.specs.Proofs.Primality.{prime_by}
 use Rattle.residue.specs.Residues.{residues}
 
--- the tests of primality that the checker computes
+-- proved by a test of divisors that the checker computes
 abbrev pub prime_2 : Prime 2
 prime_2 = prime_by 2 2 tt tt tt tt tt
 

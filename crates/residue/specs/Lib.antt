@@ -1,6 +1,6 @@
 pub mod Prime
-pub mod Remainders
+pub mod Operations
+pub mod Proofs
 pub mod Residues
-pub mod Primality
 pub mod Delivered
 pub mod Sums

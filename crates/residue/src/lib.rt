@@ -1,4 +1,5 @@
-//! Residues modulo a prime: one arithmetic for every modulus that is shown to be prime. The residue is the code.
+//! Residues modulo a prime: one arithmetic for every modulus that is shown to be prime.
+//! The residue is the code.
 #![tactic(auto)]
 
 ghost use Rattle.std.specs.Prelude.{◌≡◌, ℕ, ◌<◌, ◌≤◌};
@@ -12,7 +13,7 @@ mod sums;
 use crate::sums::{add_multiple, residue, with_room, write_residues};
 use field::Field;
 
-/// The longest row whose sums lie side by side in an array: the rows of two tables of 16 states.
+/// The longest row whose sums are kept in an array: as long as two tables of 16 states together.
 const NARROW: usize = 32;
 
 /// GF(2).
@@ -21,7 +22,7 @@ pub type Bit = Residue<2>;
 /// GF(65537).
 pub type Fermat = Residue<65537>;
 
-/// Shows that P is a prime of at most 65537, which is all that the arithmetic rests on. Another modulus costs one impl.
+/// A proof that P is a prime of at most 65537. Another modulus needs one more impl.
 pub trait PrimeModulus<const P: u32> {
     ghost prime: { Prime P };
 }
@@ -71,7 +72,7 @@ where
         }
     }
 
-    // A cast, which is proved to lose nothing; `try_from` would bring a case that never comes.
+    // The remainder fits 32 bits, so the cast loses nothing.
     fn mul(self, other: Residue<P>) -> Residue<P> {
         Residue {
             n: (self.code() * other.code() % Self::order()) as u32,
@@ -82,7 +83,7 @@ where
         if self.n == 0 {
             return None;
         }
-        // a times self leaves r; since P is prime, r falls to 1. A `while`: how many turns that takes only the turns tell.
+        // Euclid's algorithm: a times self leaves r. Since P is prime, r falls until it is 1.
         let mut a = 1;
         let mut r = self.n;
         while r > 1 {
@@ -100,7 +101,6 @@ where
         u64::from(self.n)
     }
 
-    // An `if` and not `then`: no proof is made of a call whose closure returns a type with a parameter.
     fn from_code(n: u64) -> Option<Residue<P>> {
         let n = u32::try_from(n).ok()?;
         if n < P { Some(Residue { n }) } else { None }
@@ -110,7 +110,7 @@ where
         u64::from(P)
     }
 
-    // The sum is reduced before it grows too large, so the row may have any length.
+    // The sum is reduced before it overflows, so the row may have any length.
     fn dot(row: &[Residue<P>], ys: &[Residue<P>], column: usize, step: usize) -> Residue<P> {
         let mut sum = 0;
         for (i, x) in row.iter().enumerate() {
@@ -119,10 +119,10 @@ where
         residue(sum)
     }
 
-    // Row by row of the matrix, so that the entries of a row are multiplied side by side.
+    // Goes over the rows of the matrix, so that the products with a row can be vectorized.
     fn row_times_matrix(row: &[Residue<P>], matrix: &[Residue<P>], to: &mut [Residue<P>]) {
         let n = row.len();
-        // The loop of the method that this one replaces, which cannot be called from here.
+        // A longer row: the default method's loop.
         if n > NARROW {
             for (j, x) in to.iter_mut().enumerate() {
                 *x = Self::dot(row, matrix, j, n);
@@ -137,11 +137,11 @@ where
         write_residues(sums, to);
     }
 
-    // A multiple is taken by adding P less the factor times the row; the remainder of an entry is taken where it is a
-    // pivot's, and at the end.
+    // Adds P - factor times a row in place of subtracting factor times it. Only pivots are reduced
+    // before the end.
     fn subtract_rows(row: &mut [Residue<P>], rows: &[Residue<P>], pivots: &[usize]) {
         let n = row.len();
-        // As above, the loop of the method that this one replaces.
+        // Longer rows, or more of them: the default method's loop.
         if n > NARROW || pivots.len() > NARROW {
             for (b, pivot) in pivots.iter().enumerate() {
                 let factor = row[*pivot];

@@ -1,6 +1,6 @@
-//! Sums of products of residues in 64 bits, of which one remainder is taken at the end.
+//! Sums of products of residues in 64 bits, reduced once at the end.
 ghost use Rattle.std.specs.Prelude.{◌≡◌, ℕ, ◌+◌, ◌*◌, ◌^◌, ◌≤◌, length};
-ghost use Rattle.residue.specs.Residues.{residue_of};
+ghost use Rattle.residue.specs.Operations.{residue_of};
 ghost use Rattle.residue.specs.Sums.{UpTo, MultipleAdded, ResiduesWritten, value_of};
 
 use crate::{PrimeModulus, Residue};
@@ -20,7 +20,7 @@ where
     }
 }
 
-/// The sum, or its remainder where the sum leaves little room for more: a number with the same residue.
+/// A number with the same residue and room for more: the sum, or its remainder where it is large.
 pub fn with_room<const P: u32>(sum: u64) -> u64
 where
     Residue<P>: PrimeModulus<P>,

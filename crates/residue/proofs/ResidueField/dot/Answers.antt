@@ -2,7 +2,8 @@ use Rattle.std.proofs.Common.{◌≡◌, ◌+◌, ◌*◌, ◌≤◌, ap, ap₂,
 use Rattle.field.specs.Below.{same_below}
 use Rattle.field.specs.Rows.{at}
 use Rattle.field.proofs.Rows.{at_read, sum_more}
-use Rattle.residue.specs.Residues.{residues, residue_of, positive}
+use Rattle.residue.specs.Operations.{residue_of, positive}
+use Rattle.residue.specs.Residues.{residues}
 use Rattle.residue.specs.Sums.{value_of}
 use Rattle.residue.proofs.Late.{residue_more, residue_same, product_small}
 use Rattle.residue.proofs.ResidueField.dot.Goals as goal

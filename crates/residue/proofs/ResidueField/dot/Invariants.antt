@@ -1,7 +1,8 @@
 use Rattle.std.proofs.Common.{◌≡◌, ◌≤◌, ◌+◌, ◌*◌, ◌^◌}
 use Rattle.field.specs.Rows.{at}
 use Rattle.field.specs.Sums.{dot}
-use Rattle.residue.specs.Residues.{residues, residue_of}
+use Rattle.residue.specs.Operations.{residue_of}
+use Rattle.residue.specs.Residues.{residues}
 use Rattle.residue.specs.Sums.{value_of}
 use Rattle.residue.proofs.ResidueField.dot.Given as goal
 

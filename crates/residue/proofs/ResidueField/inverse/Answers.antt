@@ -1,7 +1,7 @@
 use Rattle.std.proofs.Common.{◌≡◌, ◌∙◌, arith, rules}
 use Rattle.residue.specs.Prime.{Prime}
 use Rattle.field.specs.Below.{same_below}
-use Rattle.residue.specs.Residues.{onward}
+use Rattle.residue.specs.Proofs.Inverses.{onward}
 use Rattle.residue.proofs.Inverse.{inverse_found}
 use Rattle.residue.proofs.ResidueField.inverse.Goals as goal
 

@@ -1,4 +1,4 @@
-use Rattle.residue.specs.Residues.{OnWay}
+use Rattle.residue.specs.Proofs.Inverses.{OnWay}
 use Rattle.residue.proofs.ResidueField.inverse.Given as goal
 
 abbrev pub invariant-loop-r : goal.invariant-loop-r

@@ -2,7 +2,8 @@ use Rattle.std.proofs.Common.{length, ◌*◌}
 use Rattle.field.specs.Sums.{move}
 use Rattle.field.specs.Rows.{at, square_at, RowOf}
 use Rattle.field.proofs.Rows.{Filled}
-use Rattle.residue.specs.Residues.{residues, residue_of}
+use Rattle.residue.specs.Operations.{residue_of}
+use Rattle.residue.specs.Residues.{residues}
 use Rattle.residue.specs.Sums.{value_of, UpTo}
 use Rattle.residue.proofs.ResidueField.row_times_matrix.Given as goal
 

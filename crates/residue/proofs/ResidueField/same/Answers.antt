@@ -1,4 +1,4 @@
-use Rattle.field.specs.Below.{same_decided}
+use Rattle.field.proofs.Below.{same_decided}
 use Rattle.residue.proofs.ResidueField.same.Goals as goal
 
 pub returns : goal.returns

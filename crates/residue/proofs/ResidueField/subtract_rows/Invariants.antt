@@ -1,7 +1,8 @@
 use Rattle.std.proofs.Common.{length, get_or, ◌+◌, ◌*◌}
 use Rattle.field.specs.Sums.{less_rows}
 use Rattle.field.specs.Rows.{at, square_at, RowOf}
-use Rattle.residue.specs.Residues.{residues, residue_of}
+use Rattle.residue.specs.Operations.{residue_of}
+use Rattle.residue.specs.Residues.{residues}
 use Rattle.residue.specs.Sums.{value_of, UpTo}
 use Rattle.residue.proofs.ResidueField.subtract_rows.Given as goal
 

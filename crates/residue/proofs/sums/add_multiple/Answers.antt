@@ -1,7 +1,8 @@
 use Rattle.std.proofs.Common.{◌≡◌, ◌+◌, ◌*◌, ◌≤◌, ◌<◌, get_or, ap, ap₂, ◌∙◌, arith, length}
 use Rattle.std.proofs.lemmas.List.{get_or-set_other}
 use Rattle.field.proofs.Rows.{filled_more, at_read}
-use Rattle.residue.specs.Residues.{residues, residue_of}
+use Rattle.residue.specs.Operations.{residue_of}
+use Rattle.residue.specs.Residues.{residues}
 use Rattle.residue.specs.Sums.{value_of}
 use Rattle.residue.proofs.Late.{residue_more, at_number, product_small, up_to_set}
 use Rattle.residue.proofs.sums.add_multiple.Goals as goal

@@ -1,7 +1,8 @@
 use Rattle.std.proofs.Common.{ℕ, ◌≡◌, ◌≤◌, ◌+◌, ◌*◌, get_or}
 use Rattle.field.specs.Rows.{at}
 use Rattle.field.proofs.Rows.{Filled}
-use Rattle.residue.specs.Residues.{residues, residue_of}
+use Rattle.residue.specs.Operations.{residue_of}
+use Rattle.residue.specs.Residues.{residues}
 use Rattle.residue.specs.Sums.{UpTo, value_of, plus_multiple}
 use Rattle.residue.proofs.sums.add_multiple.Given as goal
 

@@ -1,5 +1,5 @@
 use Rattle.std.proofs.Common.{◌%◌, ap, ◌∙◌}
-use Rattle.residue.specs.Residues.{residue_of}
+use Rattle.residue.specs.Operations.{residue_of}
 use Rattle.residue.proofs.Late.{residue_again}
 use Rattle.residue.proofs.sums.with_room.Goals as goal
 

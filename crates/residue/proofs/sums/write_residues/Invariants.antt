@@ -1,6 +1,7 @@
 use Rattle.field.specs.Rows.{at}
 use Rattle.field.proofs.Rows.{Filled}
-use Rattle.residue.specs.Residues.{residues, residue_of}
+use Rattle.residue.specs.Operations.{residue_of}
+use Rattle.residue.specs.Residues.{residues}
 use Rattle.residue.specs.Sums.{value_of}
 use Rattle.residue.proofs.sums.write_residues.Given as goal
 
