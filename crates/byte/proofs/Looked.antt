@@ -5,10 +5,12 @@ use Rattle.std.specs.Prelude.{◌==◌}
 use Rattle.std.proofs.lemmas.Bool.{eqb-true, ltb-true, cases_eq}
 use Rattle.field.proofs.Laws.{not_zero, inverse_only}
 use Rattle.field.specs.Below.{Below, same_below}
+use Rattle.field.proofs.Tests.{all, all_at}
 use Rattle.byte.specs.declared.tables.TheConstants.{LOGARITHMS, POWERS}
 use Rattle.byte.specs.Product.{product}
-use Rattle.byte.specs.Linear.{left, right, linear_zero, all, all_at}
-use Rattle.byte.specs.Bytes.{bytes, product_lt, product_one, product_comm, product_assoc}
+use Rattle.byte.specs.Proofs.Linear.{left, right, linear_zero}
+use Rattle.byte.specs.Proofs.Laws.{product_lt, product_one, product_comm, product_assoc}
+use Rattle.byte.specs.Bytes.{bytes}
 
 abbrev pub log : ℕ → ℕ
 log a = get_or LOGARITHMS a 0

@@ -1,4 +1,4 @@
--- Bytes as polynomials: bits 7 to 0 are the coefficients of t^7 to t^0, and products are reduced by t^8 + t^4 + t^3 + t + 1. Assumes nothing.
+-- Products, powers and inverses of bytes. Theorems.antt states the product as FIPS 197 does. Assumes nothing.
 use Rattle.std.specs.Prelude.{ℕ, zero, suc, ◌*◌, ◌/◌, ◌%◌, bit_xor}
 
 -- t times a: t^8 leaves t^4 + t^3 + t + 1, which is 27
@@ -10,6 +10,7 @@ abbrev pub partial : ℕ → ℕ → ℕ → ℕ
 partial zero a b = 0
 partial (suc k) a b = bit_xor (b % 2 * a) (partial k (raised a) (b / 2))
 
+-- a times b
 unfoldable pub product : ℕ → ℕ → ℕ
 product a b = partial 8 a b
 

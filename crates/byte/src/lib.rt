@@ -1,10 +1,12 @@
-//! GF(256): bytes, summed by exclusive or and multiplied as polynomials reduced by t^8 + t^4 + t^3 + t + 1. The byte is the code.
+//! GF(256): bytes, added by exclusive or and multiplied as polynomials over GF(2), reduced by
+//! t^8 + t^4 + t^3 + t + 1. The byte is the code.
 #![tactic(auto)]
 
 ghost use Rattle.std.specs.Prelude.{◌≡◌, ℕ, ◌<◌, ◌≤◌};
 ghost use Rattle.field.specs.Below.{Below};
 ghost use Rattle.byte.specs.Product.{product as bytewise};
 ghost use Rattle.byte.specs.Bytes.{bytes};
+ghost use Rattle.byte.specs.Theorems.{ProductIsRemainder, RemainderIsUnique};
 
 mod tables;
 
@@ -18,13 +20,20 @@ pub struct Byte {
     ghost below: { n < 256 },
 }
 
-// The product of two bytes: its logarithm is the sum of theirs. A loop over the bits takes longer, but in rows of 16 or 32.
+// The product of two bytes: its logarithm is the sum of theirs.
 fn product(a: u8, b: u8) -> u8
     ensures is_product { result ≡ bytewise a b }
 {
     let sum = LOGARITHMS[usize::from(a)] + LOGARITHMS[usize::from(b)];
     POWERS[usize::from(sum)]
 }
+
+/// The product of two bytes is the remainder of their carry-less product by t^8 + t^4 + t^3 + t + 1, as
+/// FIPS 197 defines it: a remainder, and there is no other.
+pub fn products_are_remainders()
+    ensures product_is_remainder { ProductIsRemainder }
+    ensures remainder_is_unique { RemainderIsUnique }
+{}
 
 impl From<u8> for Byte {
     ghost from_gives = { λ n x. x.n ≡ n };

@@ -2,7 +2,7 @@
 use Rattle.std.proofs.Common.{◌≡◌, ℕ, suc, ◌+◌, ◌-◌, ◌*◌, ◌<◌, T as Passes, ltb, ◌≢◌, ◌⊎◌, ◌++◌, length, replicate, sym, refl, ap, ◌∙◌, subst, inl, inr, one-mul, mul-one, arith}
 use Rattle.std.proofs.lemmas.Bool.{ltb-true}
 use Rattle.field.specs.FiniteField.{FiniteField}
-use Rattle.byte.specs.Linear.{all, all_at}
+use Rattle.field.proofs.Tests.{all, all_at}
 use Rattle.series.specs.Words.{◌≺◌}
 use Rattle.series.specs.Listing.{Listed, Count}
 use Rattle.series.specs.Families.{mix}

@@ -3,7 +3,7 @@ use Rattle.std.proofs.Common.{◌≡◌, ℕ, ◌<◌, Bool, T as Passes, eqb, s
 use Rattle.std.proofs.lemmas.Bool.{eqb-true}
 use Rattle.field.specs.FiniteField.{FiniteField}
 use Rattle.field.proofs.Laws.{code_only}
-use Rattle.byte.specs.Linear.{all, all_at}
+use Rattle.field.proofs.Tests.{all, all_at}
 
 module _ {V : Type 0} (K : FiniteField V) where
   -- the first n values have the same codes
