@@ -1,5 +1,5 @@
--- That the product of bytes is the one remainder of their carry-less product: both are linear in each factor, so a test
--- over the powers of t decides. Assumes nothing.
+-- The product of bytes is the one remainder of their carry-less product: both are linear in each
+-- factor, so a test at the powers of t suffices. Assumes nothing.
 use Rattle.std.proofs.Common.{◌≡◌, ℕ, zero, suc, ◌+◌, ◌*◌, ◌/◌, ◌%◌, ◌^◌, ◌<◌, Bool, true, T, bit_xor, nat_lt, refl, sym, ap, ap₂, subst, ◌∙◌, mod-lt, arith, lit<, if◌then◌else◌}
 use Rattle.std.specs.Prelude.{◌==◌}
 use Rattle.std.specs.Int.Bits.{xor_assoc, xor_self, xor_zero_r, xor_zero_l}
@@ -116,7 +116,7 @@ quotient_lt a b ha hb =
 pub product_remainder : (x y : Below 256) → IsRemainder (carry_less x.n y.n) (product x.n y.n)
 unfolding rebuilt
 product_remainder x y = record {
-  low = product_lt x.n y.n x.below;
+  low = omega (arith, product_lt x.n y.n x.below);
   quotient = quotient_of (carry_less x.n y.n);
   quotient_low = quotient_lt x.n y.n x.below y.below;
   whole =

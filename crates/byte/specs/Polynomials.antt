@@ -1,7 +1,7 @@
--- Polynomials over GF(2) as numbers: bit i is the coefficient of t^i, and sums are exclusive ors. Assumes nothing.
+-- Polynomials over GF(2) as numbers: bit i is the coefficient of t^i. Assumes nothing.
 use Rattle.std.specs.Prelude.{◌≡◌, ℕ, zero, suc, ◌+◌, ◌*◌, ◌/◌, ◌%◌, ◌^◌, ◌<◌, bit_xor}
 
--- f 0 + .. + f (n - 1)
+-- f 0 + .. + f (n - 1): the sum of two polynomials is their exclusive or
 abbrev pub sum_below : ℕ → (ℕ → ℕ) → ℕ
 sum_below zero f = 0
 sum_below (suc n) f = bit_xor (sum_below n f) (f n)
@@ -18,7 +18,7 @@ carry_less a b = sum_below 8 (λ i. coefficient b i * (a * 2 ^ i))
 abbrev pub modulus : ℕ
 modulus = 2 ^ 8 + 2 ^ 4 + 2 ^ 3 + 2 ^ 1 + 2 ^ 0
 
--- r is a remainder of c by the modulus: of degree below 8, and c is a multiple of the modulus plus r
+-- r has degree below 8, and c is a multiple of the modulus plus r
 pub record IsRemainder (c r : ℕ) : Type 0 where
   pub low : r < 2 ^ 8
   pub quotient : ℕ

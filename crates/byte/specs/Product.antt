@@ -1,4 +1,4 @@
--- Products, powers and inverses of bytes. Theorems.antt states the product as FIPS 197 does. Assumes nothing.
+-- Products, powers and inverses of bytes; Theorems.antt says what a product is. Assumes nothing.
 use Rattle.std.specs.Prelude.{ℕ, zero, suc, ◌*◌, ◌/◌, ◌%◌, bit_xor}
 
 -- t times a: t^8 leaves t^4 + t^3 + t + 1, which is 27

@@ -28,8 +28,8 @@ fn product(a: u8, b: u8) -> u8
     POWERS[usize::from(sum)]
 }
 
-/// The product of two bytes is the remainder of their carry-less product by t^8 + t^4 + t^3 + t + 1, as
-/// FIPS 197 defines it: a remainder, and there is no other.
+/// The product of two bytes is the remainder of their carry-less product by
+/// t^8 + t^4 + t^3 + t + 1, as FIPS 197 defines it.
 pub fn products_are_remainders()
     ensures product_is_remainder { ProductIsRemainder }
     ensures remainder_is_unique { RemainderIsUnique }

@@ -1,6 +1,7 @@
 //! Bytes by their logarithms to the base t + 1, whose powers are all bytes but zero.
 
-/// The logarithm of each byte. That of zero is too large for a sum of two others, so that a product needs no test.
+/// The logarithm of each byte. That of zero is larger than any sum of two others, so that a product
+/// needs no test for zero.
 pub(crate) static LOGARITHMS: [u16; 256] = [
     509, 0, 25, 1, 50, 2, 26, 198, 75, 199, 27, 104, 51, 238, 223, 3, 100, 4, 224, 14, 52, 141,
     129, 239, 76, 113, 8, 200, 248, 105, 28, 193, 125, 194, 29, 181, 249, 185, 39, 106, 77, 228,
@@ -17,8 +18,8 @@ pub(crate) static LOGARITHMS: [u16; 256] = [
     24, 13, 99, 140, 128, 192, 247, 112, 7,
 ];
 
-/// The powers of t + 1 as far as two logarithms add up, 508, so that a sum needs no remainder. Then zeros, for sums with
-/// the logarithm of zero.
+/// The powers of t + 1 up to 508, the largest sum of two logarithms, so that a sum is not reduced.
+/// Then zeros, for sums with the logarithm of zero.
 pub(crate) static POWERS: [u8; 1019] = [
     1, 3, 5, 15, 17, 51, 85, 255, 26, 46, 114, 150, 161, 248, 19, 53, 95, 225, 56, 72, 216, 115,
     149, 164, 247, 2, 6, 10, 30, 34, 102, 170, 229, 52, 92, 228, 55, 89, 235, 38, 106, 190, 217,

@@ -17,8 +17,8 @@ module _ {F V : Type 0} (K : FiniteField V) (value : F → V) where
   square_at xs a n i j = at xs (a + (i * n + j))
 
   -- the row xs times the column of ys whose elements lie `step` apart from `column` on
-  abbrev pub column_product : List F → List F → ℕ → ℕ → V
-  column_product xs ys column step = dot K (length xs) (at xs) (λ i. at ys (column + i * step))
+  abbrev pub column_dot : List F → List F → ℕ → ℕ → V
+  column_dot xs ys column step = dot K (length xs) (at xs) (λ i. at ys (column + i * step))
 
   -- the row xs times the matrix ms of as many rows and columns
   abbrev pub matrix_product : List F → List F → ℕ → V
@@ -32,6 +32,10 @@ module _ {F V : Type 0} (K : FiniteField V) (value : F → V) where
   abbrev pub row_less_rows : List F → List F → List ℕ → ℕ → V
   row_less_rows xs ms pivots =
       less_rows K (length pivots) (square_at ms 0 (length xs)) (λ b. slice_index pivots b) (at xs)
+
+-- every number of the list is below n
+abbrev pub AllBelow : ℕ → List ℕ → Type 0
+AllBelow n xs = (b : ℕ) → b < length xs → slice_index xs b < n
 
 -- the first n entries of two rows are the same
 abbrev pub Agree : {V : Type 0} → ℕ → (ℕ → V) → (ℕ → V) → Type 0

@@ -20,7 +20,7 @@ module _ {V : Type 0} (K : FiniteField V) where
   abbrev pub less_multiple : (ℕ → V) → V → (ℕ → V) → ℕ → V
   less_multiple x c y j = K.plus (x j) (K.opposite (K.times c (y j)))
 
-  -- the row x less the first n rows of q, one after another: row b as often as what is left has at p b
+  -- the row x less the first n rows of q in turn: row b as often as what is left has at p b
   abbrev pub less_rows : ℕ → (ℕ → ℕ → V) → (ℕ → ℕ) → (ℕ → V) → ℕ → V
   less_rows zero q p x = x
   less_rows (suc n) q p x = less_multiple (less_rows n q p x) (less_rows n q p x (p n)) (q n)

@@ -2,10 +2,10 @@
 //! elements may stand for one value; what a function returns depends on values alone.
 #![tactic(auto)]
 
-ghost use Rattle.std.specs.Prelude.{◌≡◌, ℕ, ◌+◌, ◌*◌, ◌<◌, ◌≤◌, length, slice_index, EachIndex, Decides};
+ghost use Rattle.std.specs.Prelude.{◌≡◌, ℕ, ◌+◌, ◌*◌, ◌<◌, ◌≤◌, length, Decides};
 ghost use Rattle.field.specs.FiniteField.{FiniteField};
 ghost use Rattle.field.specs.Elements.{IsInverse, IsDecoded};
-ghost use Rattle.field.specs.Rows.{column_product, ProductWritten, MultipleTaken, RowsTaken};
+ghost use Rattle.field.specs.Rows.{AllBelow, column_dot, ProductWritten, MultipleTaken, RowsTaken};
 
 pub trait Field: Copy {
     // The values that elements stand for.
@@ -57,7 +57,7 @@ pub trait Field: Copy {
     /// The row times the column of `ys` whose elements lie `step` apart from `column` on.
     fn dot(row: &[Self], ys: &[Self], column: usize, step: usize) -> Self
         requires column_within { (i : ℕ) → i < length row.now → column + i * step < length ys.now }
-        ensures is_dot_product { value result ≡ column_product field value row.now ys.now column step }
+        ensures is_dot_product { value result ≡ column_dot field value row.now ys.now column step }
     {
         let mut sum = Self::zero();
         for (i, x) in row.iter().enumerate() {
@@ -92,7 +92,7 @@ pub trait Field: Copy {
     /// often as what is left of the row has at that pivot.
     fn subtract_rows(row: &mut [Self], rows: &[Self], pivots: &[usize])
         requires rows_within { length pivots.now * length row.old ≤ length rows.now }
-        requires pivots_within { EachIndex pivots.now (λ b. slice_index pivots.now b < length row.old) }
+        requires pivots_within { AllBelow (length row.old) pivots.now }
         ensures rest_written { RowsTaken field value row.old rows.now pivots.now row.new }
     {
         let n = row.len();

@@ -1,4 +1,5 @@
-//! Tests of the fields: worked products, inverses, and codes at the edge, and every product of two bytes by division.
+//! Tests of the fields: worked products, inverses, codes at the edge, and every product of two bytes,
+//! computed by polynomial division.
 #![tactic(auto)]
 
 #[cfg(test)]
@@ -29,7 +30,8 @@ mod tests {
         }
     }
 
-    // Checks that each code below the order comes back, with an inverse unless it is 0, and that the order is refused.
+    // Checks that each code below the order is read back, that each but 0 has an inverse, and that the
+    // order is refused.
     fn check_codes<F: Field>(rt: &impl Abort, order: u64, codes: &[u64]) -> Result<(), Fail> {
         assert_eq!(rt; F::order(), order);
         assert_eq!(rt; F::zero().code(), 0);
@@ -67,8 +69,7 @@ mod tests {
         check_codes::<Byte>(&rt, 256, &[0, 1, 2, 0x53, 0x80, 254, 255])
     }
 
-    // The product of two polynomials over GF(2), below the power 8: a sum of shifts of the first. The loop is over places
-    // of bits, which lie in no collection.
+    // The product of two polynomials over GF(2) of degree below 8: a sum of shifts of the first.
     fn shifts_summed(a: u64, b: u64) -> u64 {
         let mut sum = 0;
         for i in 0..8u8 {
@@ -79,7 +80,7 @@ mod tests {
         sum
     }
 
-    // What t^8 + t^4 + t^3 + t + 1 leaves of a polynomial, from its power 14 down. This loop too is over places of bits.
+    // The remainder of a polynomial of degree at most 14 by t^8 + t^4 + t^3 + t + 1.
     fn divided(whole: u64) -> u64 {
         let mut left = whole;
         for i in 0..7u8 {
@@ -90,7 +91,7 @@ mod tests {
         left
     }
 
-    // Checks the product of a byte with each byte, and its inverse. The loop is over values, not over places in a list.
+    // Checks the product of a byte with each byte, and its inverse.
     fn check_products(rt: &impl Abort, a: u8) {
         let x = Byte::from(a);
         for b in 0..=255u8 {
@@ -103,7 +104,6 @@ mod tests {
         }
     }
 
-    // Here too the loop is over values.
     #[test]
     fn all_products_of_bytes(rt: HostRuntime) -> Result<(), Fail> {
         for a in 0..=255u8 {
@@ -143,8 +143,8 @@ mod tests {
         Ok(())
     }
 
-    // Each entry is -1. Of a square matrix of -1 a row of -1 makes the number of rows; a row of -1 less its own first entry
-    // times a row of 1 is zero.
+    // Each entry is -1. A row of -1 times a square matrix of -1 has the number of rows as each entry;
+    // a row of -1 less -1 times a row of 1 is zero.
     #[test]
     fn rows_of_residues_wider_than_two_tables(rt: HostRuntime) {
         let minus_one = Fermat::one().neg();
@@ -160,7 +160,7 @@ mod tests {
         assert!(rt; rest.iter().all(|x| x.code() == 0));
     }
 
-    // The same in rows of 32, as wide as the rows of two tables of 16 states: 32 products of the largest residue.
+    // The same in rows of 32, the longest whose sums are kept in an array.
     #[test]
     fn rows_of_residues_as_wide_as_two_tables(rt: HostRuntime) {
         let minus_one = Fermat::one().neg();

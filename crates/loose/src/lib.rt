@@ -1,5 +1,5 @@
-//! A field for tests: residues that are reduced late, so that several elements stand for one value. Generic code that
-//! looks at elements where it should look at values does not get past it.
+//! A field for tests: residues that are not always reduced, so that several elements stand for one
+//! value. It finds generic code that compares elements where it has to compare values.
 #![tactic(auto)]
 
 ghost use Rattle.std.specs.Prelude.{◌≡◌, ℕ, ◌^◌, ◌<◌, ◌≤◌};
@@ -10,8 +10,8 @@ ghost use Rattle.residue.specs.Residues.{residues};
 use field::Field;
 use residue::{PrimeModulus, Residue};
 
-/// Stands for the residue of n: n, n + P, n + 2P and so on are elements of one value. So it derives no equality, which
-/// would tell them apart.
+/// Stands for the residue of n: n, n + P, n + 2P and so on are elements of one value. A derived
+/// equality would not hold between them, so there is none.
 #[derive(Clone, Copy, Debug)]
 pub struct Loose<const P: u32> {
     n: u64,

@@ -58,7 +58,8 @@ module _ (p : ℕ) (pr : Prime p) where
   times_one x = same_below _ _ (ap (λ m. m % p) (mul-one x.n) ∙ mod-eq_of_lt x.below)
 
   pub times_plus : (x y z : Below p)
-      → product_of p pr x (sum_of p pr y z) ≡ sum_of p pr (product_of p pr x y) (product_of p pr x z)
+      → product_of p pr x (sum_of p pr y z)
+      ≡ sum_of p pr (product_of p pr x y) (product_of p pr x z)
   times_plus x y z =
       same_below _ _
       (mul-mod_second x.n (y.n + z.n) p ∙ ap (λ m. m % p) (mul-add x.n y.n z.n)

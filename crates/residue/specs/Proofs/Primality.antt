@@ -40,7 +40,8 @@ whole_by p b root two t d h l z =
     none_at p b f t (omega arith) below zero_f)
     (cases_lt d b)
 
--- p is prime where no number from 2 to b - 1 divides it, and b * b is above p: at numerals each test is `tt`
+-- p is prime where no number from 2 to b - 1 divides it, and b * b is above p; at numerals each
+-- test is `tt`
 pub prime_by : (p b : ℕ) → T (nat_le 2 p) → T (nat_le p 65537)
     → T (nat_lt p (b * b)) → T (nat_le 2 b) → T (none_of p b) → Prime p
 prime_by p b low high root two t = record {
