@@ -1,4 +1,4 @@
-//! Compiles the plain C++ program, and links it and the verified library's archives.
+//! Compiles the C++ programs, and links them and the verified library's archives.
 
 use std::env;
 use std::path::Path;
@@ -11,12 +11,16 @@ fn run(program: &str, arguments: &[&str]) {
 
 fn main() {
     let out = env::var("OUT_DIR").expect("cargo sets OUT_DIR");
-    let (object, archive) = (format!("{out}/plain.o"), format!("{out}/libplain.a"));
-    run("g++", &["-std=c++17", "-O3", "-Wall", "-Wextra", "-c", "plain.cpp", "-o", &object]);
-    run("ar", &["rcs", &archive, &object]);
     println!("cargo::rustc-link-search=native={out}");
-    println!("cargo::rustc-link-lib=static=plain");
-    println!("cargo::rerun-if-changed=plain.cpp");
+    println!("cargo::rerun-if-changed=reporting.h");
+    for name in ["plain", "late"] {
+        let source = format!("{name}.cpp");
+        let (object, archive) = (format!("{out}/{name}.o"), format!("{out}/lib{name}.a"));
+        run("g++", &["-std=c++17", "-O3", "-Wall", "-Wextra", "-c", &source, "-o", &object]);
+        run("ar", &["rcs", &archive, &object]);
+        println!("cargo::rustc-link-lib=static={name}");
+        println!("cargo::rerun-if-changed={source}");
+    }
     let verified = env::var("REPORT_LIB").unwrap_or_else(|_| "../target/staticlib".into());
     println!("cargo::rustc-link-search=native={verified}");
     for name in ["report", "bench_c"] {

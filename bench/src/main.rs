@@ -1,15 +1,19 @@
-//! Times the verified library beside plain C++ and the independent Rust program, on the same inputs in one run, and
-//! prints the times, their ratios, whether the aims are met and how the times grow.
+//! Times the verified library beside plain C++, the independent Rust program and C++ with late remainders, on the same
+//! inputs in one run, and prints the times, their ratios, whether the aims are met and how the times grow. With a
+//! program's name, a job, states and letters it does the job once, for a count of its instructions.
 
 mod cases;
+mod counting;
 mod programs;
 mod timing;
 
-use cases::{Kind, long_walk, only_read, reading, sizes, text, two_forms};
+use std::env;
+
+use cases::{Case, Kind, long_walk, only_read, reading, sizes, text, two_forms};
 use independent::field::{Bytes, Fermat};
 use independent::prng::Random;
 use independent::vectors;
-use programs::{Reported, agree_on_rewriting, agreed_line};
+use programs::{LATE, NAMES, REWRITES, RUST, Reported, agree_on_rewriting, agreed_line};
 use timing::{Times, report_times, rewrite_times, without};
 
 /// A row of a table.
@@ -22,75 +26,73 @@ struct Row {
 }
 
 impl Row {
-    /// The verified library's time as a multiple of plain Rust's.
-    fn beside_rust(&self) -> f64 {
-        self.times[0] / self.times[2]
+    /// The verified library's time as a multiple of a program's.
+    fn beside(&self, program: usize) -> f64 {
+        self.times[0] / self.times[program]
     }
 
     fn print(&self) {
-        let [verified, cpp, rust] = self.times;
-        println!(
-            "| {} | {} | {} | {} | {verified:.1} | {cpp:.1} | {rust:.1} | {:.2} | {:.2} |",
-            self.name,
-            self.states,
-            self.letters,
-            self.note,
-            verified / cpp,
-            self.beside_rust()
-        );
+        let times = self.times.iter().map(|time| format!("{time:.1}"));
+        let ratios = (1..self.times.len()).map(|program| format!("{:.2}", self.beside(program)));
+        let cells = times.chain(ratios).collect::<Vec<_>>().join(" | ");
+        println!("| {} | {} | {} | {} | {cells} |", self.name, self.states, self.letters, self.note);
     }
 }
 
-fn head(title: &str, note: &str) {
+/// Prints the head of a table for so many programs.
+fn head(title: &str, note: &str, programs: usize) {
+    let names = &NAMES[..programs];
+    let times = names.iter().map(|name| format!("{name}, µs"));
+    let ratios = names[1..].iter().map(|name| format!("verified / {name}"));
+    let columns = times.chain(ratios).collect::<Vec<_>>();
     println!("\n### {title}\n");
-    println!(
-        "| case | states | letters | {note} | verified, µs | C++, µs | Rust, µs | verified / C++ | verified / Rust |"
-    );
-    println!("|---|---:|---:|---|---:|---:|---:|---:|---:|");
+    println!("| case | states | letters | {note} | {} |", columns.join(" | "));
+    println!("|---|---:|---:|---|{}", "---:|".repeat(columns.len()));
+}
+
+/// The line of a report, without the spaces of its columns.
+fn short_line<F: Reported>(case: &Case) -> String {
+    agreed_line::<F>(&case.first, &case.second).split_whitespace().collect::<Vec<_>>().join(" ")
 }
 
 /// Reports of a kind, in all sizes; with them, for two tables, what comparing alone takes.
 fn reports<F: Reported>(random: &mut Random, name: &'static str, kind: Kind) -> Vec<(Row, Row)> {
     let one = |(states, letters): (usize, usize)| {
         let case = kind(random, states, letters);
-        let line = agreed_line::<F>(&case.first, &case.second);
-        let note = line.split_whitespace().collect::<Vec<_>>().join(" ");
+        let note = short_line::<F>(&case);
         let read = only_read(&case);
-        agreed_line::<F>(&read.first, &read.second);
-        let times = report_times::<F>(&case);
-        let alone = without(times, report_times::<F>(&read));
+        short_line::<F>(&read);
+        let [times, reading] = report_times::<F, 2>([&case, &read]);
+        let alone = without(&times, &reading);
         let row = |times, note| Row { name, states, letters, note, times };
         (row(times, note.clone()), row(alone, note))
     };
     sizes().map(one).collect()
 }
 
-/// Prints reports, and comparing alone; answers the rows of the reports.
-fn comparisons<F: Reported>(random: &mut Random, order: &str) -> Vec<Row> {
+/// Prints reports, and comparing alone; returns the rows of both.
+fn comparisons<F: Reported>(random: &mut Random, order: &str) -> (Vec<Row>, Vec<Row>) {
     let kinds: [(_, Kind); 2] = [("two forms", two_forms::<F>), ("long walk", long_walk::<F>)];
     let rows = kinds.into_iter().flat_map(|(name, kind)| reports::<F>(random, name, kind));
     let (whole, alone): (Vec<Row>, Vec<Row>) = rows.unzip();
-    head(&format!("report on two tables over {order}"), "line");
+    head(&format!("report on two tables over {order}"), "line", F::REPORTS.len());
     whole.iter().for_each(Row::print);
-    head(&format!("comparing alone over {order}: report, less the same without comparing"), "line");
+    head(&format!("comparing alone over {order}: report, less the same without comparing"), "line", F::REPORTS.len());
     alone.iter().for_each(Row::print);
     grow(&alone[sizes().count()..]);
-    whole
+    (whole, alone)
 }
 
 /// Reports on one text, the second being empty, and on none.
 fn one_text(random: &mut Random) -> Vec<Row> {
-    head("report on one text over GF(65537)", "line");
-    let row = |name, states, letters, first: &[u8], second: &[u8]| {
-        let note = agreed_line::<Fermat>(first, second).split_whitespace().collect::<Vec<_>>().join(" ");
-        let case = cases::Case { first: first.to_vec(), second: second.to_vec() };
-        Row { name, states, letters, note, times: report_times::<Fermat>(&case) }
+    head("report on one text over GF(65537)", "line", Fermat::REPORTS.len());
+    let row = |name, states, letters, case: Case| {
+        let note = short_line::<Fermat>(&case);
+        let [times] = report_times::<Fermat, 1>([&case]);
+        Row { name, states, letters, note, times }
     };
-    row("nothing read", 0, 0, b"", b"").print();
-    let one = |(n, k)| {
-        let case = reading::<Fermat>(random, n, k);
-        row("reading", n, k, &case.first, &case.second)
-    };
+    row("nothing read", 0, 0, Case { first: Vec::new(), second: Vec::new() }).print();
+    let one = |(n, k)| row("reading", n, k, reading::<Fermat>(random, n, k));
     let rows: Vec<Row> = sizes().map(one).collect();
     rows.iter().for_each(Row::print);
     grow(&rows);
@@ -105,7 +107,7 @@ fn rewriting(random: &mut Random) -> Vec<Row> {
         Row { name: "reading and writing", states, letters, note: text.len().to_string(), times: rewrite_times(&text) }
     };
     let rows: Vec<Row> = sizes().map(one).collect();
-    head("reading and writing a text over GF(65537)", "bytes");
+    head("reading and writing a text over GF(65537)", "bytes", REWRITES.len());
     rows.iter().for_each(Row::print);
     grow(&rows);
     rows
@@ -127,35 +129,53 @@ fn grow(rows: &[Row]) {
     );
 }
 
-/// Prints whether the verified library takes at most so many times what plain Rust takes.
-fn aim(what: &str, most: f64, rows: &[Row]) {
-    let met = rows.iter().filter(|row| row.beside_rust() <= most).count();
-    let worst = rows.iter().max_by(|a, b| a.beside_rust().total_cmp(&b.beside_rust())).expect("some row");
+/// Prints in how many rows the verified library takes at most so many times what a program takes.
+fn aim<'a>(what: &str, most: f64, program: usize, rows: impl IntoIterator<Item = &'a Row>) {
+    let rows: Vec<&Row> = rows.into_iter().collect();
+    let beside = |row: &Row| row.beside(program);
+    let met = rows.iter().filter(|row| beside(row) <= most).count();
+    let worst = rows.iter().max_by(|a, b| beside(a).total_cmp(&beside(b))).expect("some row");
     println!(
-        "- {what}, at most {most:.1} times plain Rust: in {met} of {} rows; {:.2} at the most, {} at {} states and {} letters",
+        "- {what}, at most {most:.1} times {}: in {met} of {} rows; {:.2} at the most, {} at {} states and {} letters",
+        NAMES[program],
         rows.len(),
-        worst.beside_rust(),
+        beside(worst),
         worst.name,
         worst.states,
         worst.letters
     );
 }
 
-fn main() {
+fn time_all() {
     let pairs = vectors::pairs::<Fermat>(7, 400);
     pairs.iter().for_each(|(first, second)| drop(agreed_line::<Fermat>(first, second)));
     pairs.iter().for_each(|(first, _)| agree_on_rewriting(first));
     let bytes = vectors::pairs::<Bytes>(7, 400);
     bytes.iter().for_each(|(first, second)| drop(agreed_line::<Bytes>(first, second)));
-    println!("2 times 400 pairs of texts: all three give the same lines, and write 400 texts alike");
+    println!("2 times 400 pairs of texts: all programs give the same lines, and write 400 texts alike");
     let random = &mut Random::new(1);
     let one = one_text(random);
-    let two = comparisons::<Fermat>(random, "GF(65537)");
+    let (two, alone) = comparisons::<Fermat>(random, "GF(65537)");
     let rewritten = rewriting(random);
-    let over_bytes = comparisons::<Bytes>(random, "GF(256)");
+    let (over_bytes, _) = comparisons::<Bytes>(random, "GF(256)");
     println!("\n### Aims\n");
-    aim("report on one text over GF(65537)", 1.0, &one);
-    aim("report on two tables over GF(65537)", 1.0, &two);
-    aim("report on two tables over GF(256)", 1.0, &over_bytes);
-    aim("reading and writing a text", 1.2, &rewritten);
+    aim("report on one text over GF(65537)", 1.0, RUST, &one);
+    aim("report on two tables over GF(65537)", 1.0, RUST, &two);
+    aim("report on two tables over GF(256)", 1.0, RUST, &over_bytes);
+    aim("reading and writing a text", 1.2, RUST, &rewritten);
+    for (states, most) in [(16, 0.7), (4, 1.3)] {
+        let rows = alone.iter().filter(|row| row.states == states);
+        aim(&format!("comparing alone over GF(65537) at {states} states"), most, LATE, rows);
+    }
+}
+
+fn main() {
+    let arguments: Vec<String> = env::args().skip(1).collect();
+    match &arguments[..] {
+        [] => time_all(),
+        [program, job, states, letters] => {
+            counting::once(program, job, states.parse().expect("states"), letters.parse().expect("letters"));
+        }
+        _ => panic!("either no arguments, or a program, a job, states and letters"),
+    }
 }

@@ -1,4 +1,7 @@
-//! The three programs that are timed: the verified library, plain C++ and the independent Rust program.
+//! The programs that are timed: the verified library, plain C++, the independent Rust program and C++ with late
+//! remainders.
+
+use std::fmt::Debug;
 
 use independent::field::{Bytes, Fermat, Field};
 use independent::report::{LONGEST_LINE, report_line};
@@ -19,18 +22,26 @@ unsafe extern "C" {
         out: *mut u8,
         out_len: usize,
     ) -> usize;
+    fn late_report(a: *const u8, a_len: usize, b: *const u8, b_len: usize, out: *mut u8, out_len: usize) -> usize;
     fn rewrite(text: *const u8, length: usize, out: *mut u8, out_len: usize) -> usize;
     fn plain_rewrite(text: *const u8, length: usize, out: *mut u8, out_len: usize) -> usize;
 }
 
-/// Reports on two texts: writes the line to the output, and answers how many bytes it has.
+/// The programs' names. Late C++ reports over GF(65537), and has no other job.
+pub const NAMES: [&str; 4] = ["verified", "C++", "Rust", "late C++"];
+
+/// The numbers of programs that aims name.
+pub const RUST: usize = 2;
+pub const LATE: usize = 3;
+
+/// Writes the line on two texts to the output, and returns its length.
 pub type Report = fn(&[u8], &[u8], &mut [u8]) -> usize;
 
-/// Reads a text and writes it to the output: how many bytes it has.
+/// Reads a text, writes it to the output, and returns its length.
 pub type Rewrite = fn(&[u8], &mut [u8]) -> usize;
 
-/// One job as the verified library, plain C++ and plain Rust do it, in this order.
-pub type Three<Job> = [Job; 3];
+/// One job as the programs do it, in the order of their names.
+pub type Jobs<Job> = &'static [Job];
 
 fn foreign(function: ForeignReport, first: &[u8], second: &[u8], out: &mut [u8]) -> usize {
     // SAFETY: each pointer comes from a slice and goes with its length, and the output is borrowed for writing.
@@ -59,19 +70,23 @@ fn rust_rewrite(text: &[u8], out: &mut [u8]) -> usize {
     made.len()
 }
 
-/// A field whose tables all three programs report on.
+/// A field whose tables programs report on.
 pub trait Reported: Field {
     /// Their reports.
-    const REPORTS: Three<Report>;
+    const REPORTS: Jobs<Report>;
 }
 
 impl Reported for Fermat {
-    const REPORTS: Three<Report> =
-        [|a, b, out| foreign(report, a, b, out), |a, b, out| foreign(plain_report, a, b, out), rust_report::<Fermat>];
+    const REPORTS: Jobs<Report> = &[
+        |a, b, out| foreign(report, a, b, out),
+        |a, b, out| foreign(plain_report, a, b, out),
+        rust_report::<Fermat>,
+        |a, b, out| foreign(late_report, a, b, out),
+    ];
 }
 
 impl Reported for Bytes {
-    const REPORTS: Three<Report> = [
+    const REPORTS: Jobs<Report> = &[
         |a, b, out| foreign(report_bytes, a, b, out),
         |a, b, out| foreign(plain_report_bytes, a, b, out),
         rust_report::<Bytes>,
@@ -79,7 +94,7 @@ impl Reported for Bytes {
 }
 
 /// Reading and writing over GF(65537).
-pub const REWRITES: Three<Rewrite> = [
+pub const REWRITES: Jobs<Rewrite> = &[
     |text, out| foreign_rewrite(rewrite, text, out),
     |text, out| foreign_rewrite(plain_rewrite, text, out),
     rust_rewrite,
@@ -94,21 +109,27 @@ pub fn line_of(report: Report, first: &[u8], second: &[u8]) -> String {
 
 /// The line that all programs give: were they different, their times would mean nothing.
 pub fn agreed_line<F: Reported>(first: &[u8], second: &[u8]) -> String {
-    let [verified, cpp, rust] = F::REPORTS.map(|report| line_of(report, first, second));
-    assert_eq!(verified, rust);
-    assert_eq!(cpp, rust);
-    rust
+    agreed(F::REPORTS.iter().map(|report| line_of(*report, first, second)))
 }
 
-/// All programs must write a text as it is, or refuse it alike.
+/// Requires that all programs write a text as it is, or that all refuse it.
 pub fn agree_on_rewriting(text: &[u8]) {
-    let [verified, cpp, rust] = REWRITES.map(|rewrite| {
+    let written = agreed(REWRITES.iter().map(|rewrite| {
         let mut out = vec![0; text.len()];
         let length = rewrite(text, &mut out);
         out.truncate(length);
         out
-    });
-    assert_eq!(verified, rust);
-    assert_eq!(cpp, rust);
-    assert!(rust.is_empty() || rust == text);
+    }));
+    assert!(written.is_empty() || written == text);
+}
+
+/// What all programs made.
+fn agreed<T: PartialEq + Debug>(made: impl Iterator<Item = T>) -> T {
+    made.zip(NAMES)
+        .reduce(|one, other| {
+            assert_eq!(one.0, other.0, "{} and {}", one.1, other.1);
+            one
+        })
+        .expect("some program")
+        .0
 }
