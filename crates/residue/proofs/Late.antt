@@ -7,7 +7,7 @@ use Rattle.std.proofs.lemmas.List.{get_or-map, get_or-set_same, get_or-set_other
 use Rattle.field.specs.Below.{Below, same_below}
 use Rattle.field.specs.Rows.{at, Agree, RowOf}
 use Rattle.field.specs.Sums.{move, less_rows}
-use Rattle.field.proofs.Laws.{neg_times, one_times, zero_plus}
+use Rattle.field.proofs.Laws.{neg_times, neg_zero, one_times, zero_plus, zero_times}
 use Rattle.field.proofs.Rows.{sum_more, less_rows_more}
 use Rattle.residue.specs.Prime.{Prime}
 use Rattle.residue.specs.Operations.{residue_of, positive}
@@ -100,6 +100,19 @@ module _ {p : ℕ} (pr : Prime p) where
         ∙ ap₂ (residues p pr).plus (s.same j l) (ap₂ (residues p pr).times e (a j l) ∙ neg_times (residues p pr) (less_rows (residues p pr) b q v x (v b)) (q b j))
         ∙ ap (λ f. f j) (less_rows_more (residues p pr) b q v x);
   }
+
+  -- a row, from which one row more takes nothing
+  pub stand_kept : (n b : ℕ) (q : ℕ → ℕ → Below p) (v : ℕ → ℕ) (x : ℕ → Below p) (xs : List ℕ) → RowOf (residues p pr) (residue_of p pr) n (less_rows (residues p pr) b q v x) xs
+      → less_rows (residues p pr) b q v x (v b) ≡ (residues p pr).zero → RowOf (residues p pr) (residue_of p pr) n (less_rows (residues p pr) (b + 1) q v x) xs
+  stand_kept n b q v x xs s z =
+      let K = residues p pr in
+      record {
+        len = s.len;
+        same = λ j l.
+            s.same j l
+            ∙ sym (ap (K.plus (less_rows K b q v x j)) (ap (λ f. K.opposite (K.times f (q b j))) z ∙ ap K.opposite (zero_times K (q b j)) ∙ neg_zero K) ∙ K.plus_zero (less_rows K b q v x j))
+            ∙ ap (λ f. f j) (less_rows_more K b q v x);
+      }
 
   -- sums of nothing, to which a row is added
   pub stand_start : (n : ℕ) (x : ℕ → Below p) (xs ys : List ℕ) → RowOf (residues p pr) (residue_of p pr) n (λ _. (residues p pr).zero) xs

@@ -154,6 +154,10 @@ where
         add_multiple(sums, 1, row);
         for (b, pivot) in pivots.iter().enumerate() {
             let factor = residue::<P>(sums[*pivot]);
+            // Without this branch the compiler multiplies by the upper 32 bits of the factor too.
+            if factor.n == 0 {
+                continue;
+            }
             add_multiple(sums, P - factor.n, &rows[b * n..b * n + n]);
         }
         write_residues(sums, row);

@@ -1,12 +1,13 @@
 use Rattle.std.proofs.Common.{ℕ, ◌≡◌, ◌+◌, ◌-◌, ◌*◌, length, get_or, ap, ap₂, ◌∙◌, sym, arith}
 use Rattle.std.proofs.lemmas.List.{length-take-le}
 use Rattle.std.proofs.lemmas.Nat.{mul-le}
+use Rattle.field.specs.Below.{same_below}
 use Rattle.field.specs.Rows.{at, square_at}
 use Rattle.field.specs.Sums.{less_rows}
 use Rattle.field.proofs.Rows.{at_read, at_part, less_rows_more}
 use Rattle.residue.specs.Residues.{residues}
 use Rattle.residue.specs.Sums.{value_of}
-use Rattle.residue.proofs.Late.{zeros, up_to_start, at_number, stand_zero, stand_start, stand_less}
+use Rattle.residue.proofs.Late.{zeros, up_to_start, at_number, stand_zero, stand_start, stand_less, stand_kept}
 use Rattle.residue.proofs.ResidueField.subtract_rows.Goals as goal
 
 pub loop-b-preserved : goal.loop-b-preserved
@@ -68,4 +69,22 @@ loop-b-2-preserved g c =
           (ap K.opposite factor)
           (λ j l. at_part K value_of (b * n) (b * n + n) a.rows.now j (omega arith) ∙ ap (at K value_of a.rows.now) (omega arith));
       small = λ j. omega (arith, more j);
+    }
+
+pub loop-b-2-preserved-then-factor-eq0 : goal.loop-b-2-preserved-then-factor-eq0
+loop-b-2-preserved-then-factor-eq0 g c =
+    let pr = g.bound-1.prime in let K = residues g.row.P pr in
+    let a = c.args in
+    let n = length a.row.now in
+    let b = c.loop-b-2.b in
+    let w = c.loop-b-2.invariant in
+    let p : ℕ → ℕ = λ b. get_or a.pivots.now b 0 in
+    let q = square_at K value_of a.rows.now 0 n in
+    let x = at K value_of a.row.now in
+    let inside = c.requires.pivots_within b (omega arith) in
+    let factor : value_of c.residue-factor.result ≡ less_rows K b q p x (p b) =
+        c.residue-factor.ensures.is_residue ∙ at_number pr c.loop-b-2.sums (p b) (omega (arith, w.stand.len, inside)) ∙ w.stand.same (p b) inside in
+    record {
+      stand = stand_kept pr n b q p x c.loop-b-2.sums w.stand (sym factor ∙ same_below _ _ c.if-factor-eq0.true);
+      small = λ j. omega (arith, w.small j);
     }
