@@ -17,7 +17,7 @@ use Rattle.book.specs.Shelves.{Entry, empty, filled, Shelf, at_place, entry, sta
 use Rattle.book.specs.Calls.{Call, reduce, weigh, compare}
 use Rattle.book.specs.Verdicts.{Says, reported}
 use Rattle.book.specs.Doing.{Makes}
-use Rattle.book.specs.Using.{lending, Use, Leads, Course, Opening, Untouched, next, Page, blank, holds, page, Book}
+use Rattle.book.specs.Using.{lending, Leads, Course, Opening, Untouched, next, Page, blank, holds, page, Book}
 use Rattle.book.specs.Running.{taken_back}
 use Rattle.book.specs.Settling.{OutcomesAreSettled}
 use Rattle.book.specs.RoundTrips.{LoadAndWriteUndoEachOther}

@@ -1,5 +1,5 @@
 -- Load and write undo each other. Assumes nothing.
-use Rattle.std.proofs.Common.{◌≡◌, ℕ, ◌+◌, ◌<◌, ◌≤◌, ◌≢◌, ◌↔◌, List, [], ◌∷◌, ◌++◌, length, take, drop, sym, refl, ap, ◌∙◌, subst, ap₂, inl, inr, arith, Ok, Err}
+use Rattle.std.proofs.Common.{◌≡◌, ℕ, ◌≤◌, ◌≢◌, ◌↔◌, List, [], ◌∷◌, ◌++◌, length, take, drop, sym, refl, ap, ◌∙◌, subst, ap₂, inl, inr, arith, Ok, Err}
 use native.Mathlib.Decide.{dec_le}
 use Rattle.std.proofs.lemmas.List.{take_at}
 use Rattle.field.specs.FiniteField.{FiniteField}
@@ -23,7 +23,7 @@ use Rattle.book.proofs.Places.{at_same}
 use Rattle.book.proofs.Blocks.{same_sym, same_trans}
 use Rattle.book.proofs.Accepting.{placed, full}
 use Rattle.text.proofs.SameTexts.{text_same}
-use Rattle.book.proofs.Standing.{Stands, source}
+use Rattle.book.proofs.Standing.{source}
 use Rattle.book.proofs.Uses.{use_booked, use_stands}
 use Rattle.book.proofs.Staying.{Stays, stays_table, untouched_stays}
 

@@ -182,7 +182,8 @@ module _ {V : Type 0} (K : FiniteField V) {F : Type 0} (value : F → V) where
         (u : Opening K value cs os s) → Follows cs os s u
     -- every use has a course of shelves, and on each course it follows throughout
     pub courses : (first s : Shelf F) (cs : List Call) (os : List Outcome)
-        → Use K value first cs os s → (after : ℕ → Shelf F) × Course (Leads K value) first cs os s after
+        → Use K value first cs os s
+        → (after : ℕ → Shelf F) × Course (Leads K value) first cs os s after
     pub throughout : (cs : List Call) (os : List Outcome) (s : Shelf F)
         (u : Opening K value cs os s) (after : ℕ → Shelf F)
         → Course (Leads K value) u.first cs os s after → FollowsThroughout cs os s u after
@@ -191,9 +192,10 @@ module _ {V : Type 0} (K : FiniteField V) {F : Type 0} (value : F → V) where
         → Run K value first rs os t → Use K value first.shelf (map call_in rs) os t.shelf
     -- they have a course of states, whose shelves are a course of the calls
     pub run_courses : (first t : State F) (rs : List Request) (os : List Outcome)
-        → Run K value first rs os t → (after : ℕ → State F) × Course (CarriesOut K value) first rs os t after
-    pub course_of_calls : (first t : State F) (rs : List Request) (os : List Outcome) (after : ℕ → State F)
-        → Course (CarriesOut K value) first rs os t after
+        → Run K value first rs os t
+        → (after : ℕ → State F) × Course (CarriesOut K value) first rs os t after
+    pub course_of_calls : (first t : State F) (rs : List Request) (os : List Outcome)
+        (after : ℕ → State F) → Course (CarriesOut K value) first rs os t after
         → Course (Leads K value) first.shelf (map call_in rs) os t.shelf (λ i. (after i).shelf)
     -- calls that go on where others came to are one list of calls with them
     pub joined : (first s t : Shelf F) (cs ds : List Call) (os ps : List Outcome)

@@ -4,8 +4,9 @@ use Rattle.faults.specs.Refusals.{load_refusal, load_position}
 use Rattle.book.specs.declared.refusal.Refusal.{Refusal}
 use Rattle.book.specs.declared.refusal.Refusal.TheVariants.{PlaceOutside, MemoryShort, WorkShort, PlaceEmpty, LettersDiffer, StatesOver, LetterOutside, CodeOutside, OutputShort, Unreadable}
 
--- 1: a place is outside 1 to 8; 2: shelf memory is short; 3: work memory is short; 4: a place to be read or cleared is empty; 5: two letter counts differ;
--- 6: the result has over 16 states; 7: a letter is outside 1 to k; 8: a code is q or more; 9: the output is short; 10 to 15: the text is unreadable
+-- 1: a place is outside 1 to 8; 2: shelf memory is short; 3: work memory is short; 4: a place to be
+-- read or cleared is empty; 5: two letter counts differ; 6: the result has over 16 states; 7: a letter
+-- is outside 1 to k; 8: a code is q or more; 9: the output is short; 10 to 15: the text is unreadable
 abbrev pub refusal_number : Refusal → ℕ
 refusal_number PlaceOutside = 1
 refusal_number MemoryShort = 2

@@ -12,7 +12,8 @@ use Rattle.book.specs.Refusals.{refusal_number}
 use Rattle.book.specs.declared.refusal.Refusal.{Refusal}
 use Rattle.book.specs.declared.refusal.Refusal.TheVariants.{PlaceOutside, MemoryShort, WorkShort, PlaceEmpty, LettersDiffer, StatesOver, LetterOutside, CodeOutside, OutputShort, Unreadable}
 
--- how many elements of shelf memory, which are 8 times 1568, and of work memory a call asks for: clear asks for none, and write for no work memory
+-- how many elements of shelf memory, which are 8 times 1568, and of work memory a call asks for:
+-- clear asks for none, and write for no work memory
 abbrev pub asks : Call → ℕ × ℕ
 asks (load text to) = (12544, 8192)
 asks (sum p q to) = (12544, 8192)
@@ -51,14 +52,18 @@ module _ {V : Type 0} (K : FiniteField V) {F : Type 0} (s : State F) where
     sum_states : {p q to : ℕ} → 16 < states_at p + states_at q → Meets (sum p q to) StatesOver
     multiply_states : {p q to : ℕ} → 16 < states_at p * states_at q → Meets (multiply p q to) StatesOver
     -- 7: a letter is outside 1 to k, and the first such stands at position i
-    weigh_letter : {p i : ℕ} {w : Word} → FirstOutside (letters_at p) w i → Meets (weigh p w) (LetterOutside i)
-    after_letter : {p a to i : ℕ} → FirstOutside (letters_at p) (a ∷ []) i → Meets (after p a to) (LetterOutside i)
+    weigh_letter : {p i : ℕ} {w : Word} → FirstOutside (letters_at p) w i
+        → Meets (weigh p w) (LetterOutside i)
+    after_letter : {p a to i : ℕ} → FirstOutside (letters_at p) (a ∷ []) i
+        → Meets (after p a to) (LetterOutside i)
     -- 8: a code is q or more
     scale_code : {p c to : ℕ} → K.q ≤ c → Meets (scale p c to) CodeOutside
     -- 9: the output is shorter than the text
-    write_room : {p : ℕ} → length s.lent.output < text_size (states_at p) (letters_at p) → Meets (write p) OutputShort
+    write_room : {p : ℕ} → length s.lent.output < text_size (states_at p) (letters_at p)
+        → Meets (write p) OutputShort
     -- 10 to 15: the text has a fault
-    load_fault : {text : List ℕ} {to : ℕ} {f : LoadFault} → TextRefused K text f → Meets (load text to) (Unreadable f)
+    load_fault : {text : List ℕ} {to : ℕ} {f : LoadFault} → TextRefused K text f
+        → Meets (load text to) (Unreadable f)
 
   -- of the conditions that it meets, the one with the smallest number decides
   pub record Refuses (c : Call) (r : Refusal) : Type 0 where

@@ -27,14 +27,16 @@ module _ {V : Type 0} (K : FiniteField V) {F : Type 0} (value : F → V) where
     pub accepted : (s t : State F) (text : List ℕ) (to : ℕ) (o : Outcome)
         → CanLoad s to → Does K value s (load text to) o t → (o ≡ Ok Done) ↔ IsTableText K text
     -- after an accepted load, as long as its place is untouched, write leaves that very text
-    pub written_as_loaded : (cs : List Call) (os : List Outcome) (s t : State F) (text : List ℕ) (to : ℕ)
+    pub written_as_loaded : (cs : List Call) (os : List Outcome) (s t : State F) (text : List ℕ)
+        (to : ℕ)
         → Opening K value cs os s.shelf → Does K value s (load text to) (Ok Done) t
         → (u : Shelf F) → Untouched K value to t.shelf u
         → (l : Lent) (o : Outcome) (v : State F) → length text ≤ length l.output
         → Does K value (lending u l) (write to) o v
         → (o ≡ Ok (Count (length text))) × (v.lent ≡ with_text l text)
     -- a load of what a write left, also in another use, is accepted and leaves the same numbers
-    pub loaded_as_written : (cs ds : List Call) (os ps : List Outcome) (s t u v : State F) (p n to : ℕ) (o : Outcome)
+    pub loaded_as_written : (cs ds : List Call) (os ps : List Outcome) (s t u v : State F)
+        (p n to : ℕ) (o : Outcome)
         → Opening K value cs os s.shelf → Does K value s (write p) (Ok (Count n)) t
         → Opening K value ds ps u.shelf → CanLoad u to
         → Does K value u (load (take n t.lent.output) to) o v

@@ -30,18 +30,24 @@ Changes c (Err r) p = ⊥
 Changes c (Ok a) p = Among (results c) p
 
 module _ {V : Type 0} (K : FiniteField V) {F : Type 0} (value : F → V) where
-  -- calls made one after another on one shelf, and what came of each; directory and shelf memory pass from call to call, and each call may be lent anything
+  -- calls made one after another on one shelf, and what came of each; directory and shelf memory pass
+  -- from call to call, and each call may be lent anything
   pub data Use (first : Shelf F) : List Call → List Outcome → Shelf F → Type 0 where
     none : Use first [] [] first
-    next : {cs : List Call} {os : List Outcome} {s : Shelf F} → Use first cs os s → (l : Lent) (c : Call) (o : Outcome) (t : State F) → Does K value (lending s l) c o t → Use first (cs ++ c ∷ []) (os ++ o ∷ []) t.shelf
+    next : {cs : List Call} {os : List Outcome} {s : Shelf F} → Use first cs os s
+        → (l : Lent) (c : Call) (o : Outcome) (t : State F) → Does K value (lending s l) c o t
+        → Use first (cs ++ c ∷ []) (os ++ o ∷ []) t.shelf
 
-  -- call i of a use, from 0: the shelf that the calls before it came to, what it was lent, and what it did; c and o stand in for a call that there is not
-  pub record CallAt (first : Shelf F) (cs : List Call) (os : List Outcome) (i : ℕ) (c : Call) (o : Outcome) : Type 0 where
+  -- call i of a use, from 0: the shelf that the calls before it came to, what it was lent, and what it
+  -- did; c and o stand in for a call that there is not
+  pub record CallAt (first : Shelf F) (cs : List Call) (os : List Outcome) (i : ℕ)
+      (c : Call) (o : Outcome) : Type 0 where
     pub before : Shelf F
     pub lent : Lent
     pub left : State F
     pub until : Use first (take i cs) (take i os) before
-    pub does : Does K value (lending before lent) (slice_index_or cs i c) (slice_index_or os i o) left
+    pub does : Does K value (lending before lent)
+        (slice_index_or cs i c) (slice_index_or os i o) left
     pub with_it : Use first (take (suc i) cs) (take (suc i) os) left.shelf
 
   -- a call with this outcome, lent anything, leads from one shelf to the other
@@ -85,13 +91,24 @@ module _ {V : Type 0} (K : FiniteField V) where
 
   -- what an accepted call enters
   abbrev pub Enters : List (Page V) → Call → List (Page V) → Type 0
-  Enters B (load text to) B' = (T : Table V) × Sized T × (text ≡ text_of K T) × (B' ≡ with_place B to (holds T.letters (weight K T)))
-  Enters B (sum p q to) B' = B' ≡ with_place B to (holds (letters_on (page B p)) (λ w. K.plus (weights_on (page B p) w) (weights_on (page B q) w)))
-  Enters B (scale p c to) B' = B' ≡ with_place B to (holds (letters_on (page B p)) (λ w. K.times (K.decode c) (weights_on (page B p) w)))
-  Enters B (multiply p q to) B' = B' ≡ with_place B to (holds (letters_on (page B p)) (λ w. K.times (weights_on (page B p) w) (weights_on (page B q) w)))
-  Enters B (after p a to) B' = B' ≡ with_place B to (holds (letters_on (page B p)) (λ w. weights_on (page B p) (a ∷ w)))
-  Enters B (turn p to) B' = B' ≡ with_place B to (holds (letters_on (page B p)) (λ w. weights_on (page B p) (reverse w)))
-  Enters B (reduce p to) B' = B' ≡ with_place B to (holds (letters_on (page B p)) (weights_on (page B p)))
+  Enters B (load text to) B' =
+      (T : Table V) × Sized T × (text ≡ text_of K T)
+      × (B' ≡ with_place B to (holds T.letters (weight K T)))
+  Enters B (sum p q to) B' =
+      B' ≡ with_place B to (holds (letters_on (page B p))
+      (λ w. K.plus (weights_on (page B p) w) (weights_on (page B q) w)))
+  Enters B (scale p c to) B' =
+      B' ≡ with_place B to (holds (letters_on (page B p))
+      (λ w. K.times (K.decode c) (weights_on (page B p) w)))
+  Enters B (multiply p q to) B' =
+      B' ≡ with_place B to (holds (letters_on (page B p))
+      (λ w. K.times (weights_on (page B p) w) (weights_on (page B q) w)))
+  Enters B (after p a to) B' =
+      B' ≡ with_place B to (holds (letters_on (page B p)) (λ w. weights_on (page B p) (a ∷ w)))
+  Enters B (turn p to) B' =
+      B' ≡ with_place B to (holds (letters_on (page B p)) (λ w. weights_on (page B p) (reverse w)))
+  Enters B (reduce p to) B' =
+      B' ≡ with_place B to (holds (letters_on (page B p)) (weights_on (page B p)))
   Enters B (weigh p w) B' = B' ≡ B
   Enters B (compare p q) B' = B' ≡ B
   Enters B (write p) B' = B' ≡ B

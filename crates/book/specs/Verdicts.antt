@@ -16,7 +16,16 @@ kind_number kinds.Differs = 1
 
 -- a record to which nothing is written yet
 abbrev pub unwritten : Verdict
-unwritten = record { kind = kinds.Alike; tried = 0; kept = 0; length = 0; first = 0; second = 0; letters = replicate 31 0 }
+unwritten =
+    record {
+      kind = kinds.Alike;
+      tried = 0;
+      kept = 0;
+      length = 0;
+      first = 0;
+      second = 0;
+      letters = replicate 31 0;
+    }
 
 -- the word that a verdict of kind 1 reports
 abbrev pub reported : Verdict → Word
@@ -34,8 +43,9 @@ module _ {V : Type 0} (K : FiniteField V) (S T : Table V) where
     pub second : v.second ≡ 0
     pub letters : v.letters ≡ replicate 31 0
 
-  -- some word does not: kind 1, how many words are tried up to the least such word, itself counted, a kept number of 0, its length, the codes of its weights
-  -- under the first and the second table, and its letters, unused places 0
+  -- some word does not: kind 1, how many words are tried up to the least such word, itself counted, a
+  -- kept number of 0, its length, the codes of its weights under the first and the second table, and
+  -- its letters, unused places 0
   pub record SaysDifferent (v : Verdict) : Type 0 where
     pub word : Word
     pub least : LeastDifference K S T word

@@ -10,14 +10,16 @@ use Rattle.book.specs.declared.refusal.Refusal.{Refusal}
 use Rattle.book.specs.declared.refusal.Refusal.TheVariants.{MemoryShort, WorkShort, PlaceEmpty}
 use Rattle.walk.specs.declared.pairs.Pair.{Pair}
 
--- the call reads the places ps, names besides them only places of qs, and asks for all of shelf memory and so many elements of work memory
+-- the call reads the places ps, names besides them only places of qs, and asks for all of shelf
+-- memory and so many elements of work memory
 pub record Reads (c : Call) (ps qs : List ℕ) (work : ℕ) : Type 0 where
   pub sources_are : sources c ≡ ps
   pub results_among : (q : ℕ) → Among (results c) q → Among qs q
   pub named : (q : ℕ) → Among qs q → Names c q
   pub asks_all : asks c ≡ (12544, work)
 
--- the call reads two places whose tables have to have one letter count, p and q, and names the place `to` besides
+-- the call reads two places whose tables have to have one letter count, p and q, and names the place
+-- `to` besides
 pub data Pairs : Call → ℕ → ℕ → ℕ → Type 0 where
   of_sum : (p q to : ℕ) → Pairs (sum p q to) p q to
   of_multiply : (p q to : ℕ) → Pairs (multiply p q to) p q to
@@ -41,7 +43,8 @@ module _ {V : Type 0} (K : FiniteField V) {F T : Type 0} (s : Lent → State F) 
   ChecksTwo p q to r = (c : Call) (rest : Lent) → Pairs c p q to → Checked K (s rest) c 5 r
 
 -- t is the table of place p, by its entry, in shelf memory
-pub record Found {F : Type 0} (entries : List Entry) (memory : List F) (p : ℕ) (t : TableRef F) : Type 0 where
+pub record Found {F : Type 0} (entries : List Entry) (memory : List F) (p : ℕ) (t : TableRef F)
+    : Type 0 where
   pub told : at_place empty entries p ≡ filled t.shape.states t.shape.letters
   pub in_memory : t.memory.now ≡ memory
   pub begins_there : t.base ≡ begins p
@@ -63,6 +66,7 @@ Short len work f =
     ⊎ ((f ≡ WorkShort) × (12544 ≤ len) × (work < 8192))
 
 -- two tables of one letter count
-pub record FoundBoth {F : Type 0} (entries : List Entry) (memory : List F) (p q : ℕ) (both : Pair F) : Type 0 where
+pub record FoundBoth {F : Type 0} (entries : List Entry) (memory : List F) (p q : ℕ) (both : Pair F)
+    : Type 0 where
   pub left : Found entries memory p both.left
   pub right : Found entries memory q both.right

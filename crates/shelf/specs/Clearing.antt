@@ -26,4 +26,4 @@ module _ {V : Type 0} (K : FiniteField V) {F : Type 0} (value : F → V) where
       (entries left : List Entry) (memory : List F) (p : ℕ) (r : Result (Unit {0}) Refusal)
       → Clears entries p r left
       → Performs K value (clear p) (outcome_of r)
-          (lending (shelf_of entries memory)) (lending (shelf_of left memory))
+      (lending (shelf_of entries memory)) (lending (shelf_of left memory))

@@ -11,5 +11,7 @@ pub const SHELF: usize = 8 * TABLE;
 pub const WORK: usize = 8192;
 
 const _: () = prove!(TABLE == 2 * 16 + 6 * (16 * 16));
+
 const _: () = prove!(SHELF == 8 * (2 * 16 + 6 * (16 * 16)));
+
 const _: () = prove!(WORK == 1 << 13);
