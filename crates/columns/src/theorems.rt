@@ -1,4 +1,4 @@
-//! What holds of every number in columns, held by a function that does nothing else.
+//! A theorem on numbers in columns, the contract of a function with an empty body.
 ghost use Rattle.columns.specs.Facts.{LegalIs};
 
 /// Which bytes are the columns of a number.

@@ -15,7 +15,7 @@ use faults::{LineFault, LoadFault, Position};
 use field::Field;
 
 /// The rest of a text, the position of its first byte, and the line that is due, which `rows` matrix lines follow.
-// `Able` is no ghost field: a reader of any text can be made, and a long enough text takes its counts past any limit.
+// The clause `able` of the methods bounds line and column, since a long text could take them past any limit.
 #[derive(Clone, Copy)]
 pub struct Reader<'a> {
     rest: &'a [u8],

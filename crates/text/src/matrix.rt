@@ -4,7 +4,7 @@ ghost use Rattle.columns.specs.Lines.{TenDigits};
 
 use rows::table::Shape;
 
-/// The letter and the row number, both from 1, of row `j`, from 0, of all matrices of a table of this shape.
+/// Returns the letter and the row number, both from 1, of row `j`, from 0, of all matrices of a table of this shape.
 pub fn heads(shape: Shape, j: usize) -> [u64; 2]
     requires one_of_them { j < shape.letters * shape.states }
     ensures numbered { result ≡ (j / shape.states + 1) ∷ (j % shape.states + 1) ∷ [] }

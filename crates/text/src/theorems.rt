@@ -1,4 +1,4 @@
-//! What holds of every text over every field, held by functions that do nothing else.
+//! Theorems on texts over every field, each the contract of a function with an empty body.
 ghost use Rattle.text.specs.Facts.{LengthIs, ToldApart, Decided, ReadBack, WrittenBack};
 
 use field::Field;

@@ -143,7 +143,6 @@ fn mixed(text: &[u8]) -> u64 {
 }
 
 /// Prints the text of the table: its length, its bytes mixed and the byte after it.
-// A function, since these are of no one value that could have a `Display`.
 fn show_text(
     rt: HostRuntime,
     name: &str,

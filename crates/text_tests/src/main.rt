@@ -1,4 +1,4 @@
-//! Runs the reader and the writer of the column text on texts whose verdicts are known, and prints what they say.
+//! Runs the reader and the writer of the column text on texts whose verdicts are known, and prints the verdicts.
 #![tactic(auto)]
 
 mod cases;

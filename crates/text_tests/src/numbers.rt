@@ -3,8 +3,7 @@ use columns::column::{put_number, read_number};
 use faults::Position;
 use std::io;
 
-/// Prints what the columns hold, or the column that cannot stand.
-// A function: a `Display` would be of a result of two types of other crates.
+/// Prints the number in the columns, or the position of the first byte that cannot stand in its column.
 fn show(rt: HostRuntime, bytes: &[u8; 11]) -> io::Result<()> {
     let start = Position {
         line: 7,

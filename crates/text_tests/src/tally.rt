@@ -17,7 +17,6 @@ impl Verdict {
     }
 
     /// The refusal's number, line and column; 0, states and letters for an accepted text.
-    // Three numbers and no enum: a tally adds up the three of every verdict alike.
     fn numbers(&self) -> (u64, u64, u64) {
         match &self.0 {
             // `as`: std has no From between usize and u64.
