@@ -8,12 +8,12 @@ use Rattle.std.proofs.lemmas.Bool.{cases_eq}
 use Rattle.std.proofs.lemmas.Str.Parse.{numerals_by_value, tells_digits}
 use Rattle.std.proofs.lemmas.Int.Digits.{digits_value-lt}
 use Rattle.std.proofs.lemmas.Fmt.{decimal-digits_value, decimal_is_IsNumeral, decimal_nonempty, decimal_digit, length-decimal-le, first_decimal}
-use Rattle.columns.specs.Numbers.{number}
+use Rattle.columns.specs.Numbers.{number, IsNumber}
 use Rattle.columns.specs.Lines.{numbers, line, TenDigits}
 use Rattle.columns.specs.Facts.{Shaped, LegalIs}
 use Rattle.columns.proofs.Begun.{number_begun, length_number, begun_same}
 
-shaped_number : (bs : List ℕ) → Shaped bs → (v : ℕ) × (v < 10 ^ 10) × (bs ≡ number v)
+shaped_number : (bs : List ℕ) → Shaped bs → (v : ℕ) × IsNumber bs v
 unfolding number
 shaped_number bs s =
     let ds = s.digits in
@@ -22,7 +22,7 @@ shaped_number bs s =
     let small : number_of_lem 10 ds < 10 ^ 10 = omega (arith, digits_value-lt 10 ds s.each) in
     let same = decimal-digits_value (numerals_by_value (AllDigits 10) tells_digits) ds s.each s.some s.lead (omega arith) in
     let left : 11 - length ds ≡ s.blanks = omega arith in
-    (number_of_lem 10 ds, small, s.parts ∙ sym (ap (λ l. replicate (11 - length l) 32 ++ l) same ∙ ap (λ n. replicate n 32 ++ ds) left))
+    (number_of_lem 10 ds, (small, s.parts ∙ sym (ap (λ l. replicate (11 - length l) 32 ++ l) same ∙ ap (λ n. replicate n 32 ++ ds) left)))
 
 number_shaped : (v : ℕ) → v < 10 ^ 10 → Shaped (number v)
 unfolding number

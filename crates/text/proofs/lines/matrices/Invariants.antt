@@ -1,4 +1,4 @@
-use Rattle.std.proofs.Common.{◌≡◌, ◌-◌, ◌*◌}
+use Rattle.std.proofs.Common.{◌-◌, ◌*◌}
 use Rattle.reader.specs.Steps.{RowsDue}
 use Rattle.text.specs.Rows.{codes_of}
 use Rattle.text.proofs.Rows.{Lined}
