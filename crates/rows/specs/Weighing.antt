@@ -1,4 +1,4 @@
--- What weighing a word answers. Assumes nothing.
+-- The result of weighing a word. Assumes nothing.
 use Rattle.std.specs.Prelude.{◌≡◌, ℕ, ◌+◌, ◌≤◌, ◌∷◌, ◌++◌, length, Result, MatchResult}
 use Rattle.field.specs.FiniteField.{FiniteField}
 use Rattle.series.specs.Words.{Word, Over}

@@ -24,7 +24,6 @@ pub fn row_times_matrix<F: Field>(row: &[F], matrix: &[F], to: &mut [F])
 }
 
 /// Writes to `to` the matrix of as many rows and columns times the column.
-// Not one with the above: it would take two strides, of which only (1, n) and (n, 1) are meant, and name neither product.
 pub fn matrix_times_column<F: Field>(matrix: &[F], column: &[F], to: &mut [F])
     requires square { length matrix.now ≡ length column.now * length column.now }
     requires as_long { length to.old ≡ length column.now }
@@ -56,7 +55,7 @@ pub fn scale_row<F: Field>(row: &mut [F], factor: F)
 }
 
 /// Fills the row with zero.
-// Not `fill`: it asks that cloning the element cannot fail and gives it again, which is not known of every field.
+// `fill` requires that a clone cannot fail and is the same element, which is not known of every field.
 pub fn clear_row<F: Field>(to: &mut [F])
     ensures zeros_written { RowOf F.field F.value (length to.old) (λ _. F.field.zero) to.new }
 {

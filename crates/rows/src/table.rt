@@ -47,7 +47,7 @@ impl Shape {
     /// How many elements a table of this shape takes.
     pub fn size(self) -> usize
         ensures is_table_size { result ≡ table_size self.states self.letters }
-        ensures at_most_1568 { result ≤ 1568 }
+        ensures at_most_largest { result ≤ LARGEST }
     {
         let n = self.states;
         n + self.letters * (n * n) + n
@@ -56,7 +56,7 @@ impl Shape {
 
 /// A table of a shape that lies in memory from the element `base` on: its start row, its matrices by letter and then by
 /// row, and its end column.
-// The whole memory and where the table begins, not the part alone: so it stands for the very table that a shelf names there.
+// It keeps the whole memory and where the table begins, so that a contract can name the place at which a shelf holds it.
 pub struct TableRef<'a, F> {
     memory: &'a [F],
     base: usize,
@@ -64,7 +64,7 @@ pub struct TableRef<'a, F> {
     ghost within: { base + table_size shape.states shape.letters ≤ length memory.now },
 }
 
-// By hand: neither is derived on a generic struct with a ghost field.
+// Written by hand: neither is derived on a generic struct with a ghost field.
 impl<'a, F> Clone for TableRef<'a, F> {
     ghost is_clone = { λ t r. r ≡ t };
 
@@ -146,7 +146,6 @@ impl<'a, F: Field> TableRef<'a, F> {
     }
 
     /// The matrix of a letter, row by row.
-    // A letter is a plain number: a type for it would need a clause too, which says of how many letters it is one.
     pub fn matrix(self, letter: usize) -> &'a [F]
         requires letter_of_table { (1 ≤ letter) × (letter ≤ self.shape.letters) }
         ensures matrix_of_letter { SquareOf F.field F.value self.entry.shape.states ((table_of F.field F.value self.entry).step letter) result.now }

@@ -7,7 +7,6 @@ use crate::table::Shape;
 
 /// Writes a table of a shape into a slice that is exactly as long: `write_start` writes the start row, `write_row` each
 /// row of each matrix, given its letter and its number from 0, and `write_end` the end column.
-// The slice stays beside its shape: a type that holds both would have to promise that it is the same reference still.
 pub fn write_table<T, S: FnOnce(&mut [T]), R: Fn(usize, usize, &mut [T]), E: FnOnce(&mut [T])>(
     shape: Shape,
     to: &mut [T],
@@ -33,7 +32,7 @@ pub fn write_table<T, S: FnOnce(&mut [T]), R: Fn(usize, usize, &mut [T]), E: FnO
 }
 
 // The rows of all matrices, one after another.
-// By an index: of what a loop over `chunks_exact_mut` wrote a proof knows no element, and there may be no states.
+// By an index: after a loop over `chunks_exact_mut` a proof knows none of the elements, and a chunk cannot be empty.
 fn write_rows<T, R: Fn(usize, usize, &mut [T])>(shape: Shape, to: &mut [T], write_row: R)
     requires as_long { length to.old ≡ shape.letters * shape.states * shape.states }
     requires rows_taken { TakesRows R.Fn write_row shape.states shape.letters }

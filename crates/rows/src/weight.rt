@@ -16,7 +16,6 @@ pub struct LetterOutside {
 
 /// The weight of a word, or its first letter that the table lacks. The row that the word has led to lies at the front of
 /// `work`, and the next one behind it.
-// One slice for two rows: what is lent may be longer, as the work memory of a shelf is.
 pub fn weigh<F: Field>(
     table: TableRef<'_, F>,
     word: &[u8],

@@ -24,9 +24,9 @@ returns-in_err-body g c =
     let got = c.in_ok-shape.ensures.shape in
     let n = c.in_ok-shape.shape.states in
     let k = c.in_ok-shape.shape.letters in
-    let taken : length c.body.new.elements ≡ c.size.result = c.body.auto.elements ∙ cut_length 0 c.size.result c.size.result c.args.work.now (omega arith) (omega (arith, c.requires.room, c.size.ensures.at_most_1568)) in
+    let taken : length c.body.new.elements ≡ c.size.result = c.body.auto.elements ∙ cut_length 0 c.size.result c.size.result c.args.work.now (omega arith) (omega (arith, c.requires.room, c.size.ensures.at_most_largest)) in
     let refused = body_refuses K g.F.Field.value text c.new-reader.result c.new-reader.ensures.at_the_start c.table_line.new.reader n k (shape_limits c.in_ok-shape.shape) got _ c.in_err-body.ensures.stops in
-    rw (p.1, p.2) (record { accepted = tt; refused = refused; refused_has_no_table = λ e T s t. (decided K text).0 T _ s t refused; table_alone_written = frame_front c.size.result 1568 c.args.work.now c.body.new.elements taken c.size.ensures.at_most_1568 c.requires.room })
+    rw (p.1, p.2) (record { accepted = tt; refused = refused; refused_has_no_table = λ e T s t. (decided K text).0 T _ s t refused; table_alone_written = frame_front c.size.result 1568 c.args.work.now c.body.new.elements taken c.size.ensures.at_most_largest c.requires.room })
 
 pub returns-in_err-finish : goal.returns-in_err-finish
 returns-in_err-finish g c =
@@ -38,12 +38,12 @@ returns-in_err-finish g c =
     let k = c.in_ok-shape.shape.letters in
     let work = c.args.work.now in
     let ys = c.body.new.elements in
-    let taken : length ys ≡ c.size.result = c.body.auto.elements ∙ cut_length 0 c.size.result c.size.result work (omega arith) (omega (arith, c.requires.room, c.size.ensures.at_most_1568)) in
+    let taken : length ys ≡ c.size.result = c.body.auto.elements ∙ cut_length 0 c.size.result c.size.result work (omega arith) (omega (arith, c.requires.room, c.size.ensures.at_most_largest)) in
     let long : length ys ≡ table_size n k = taken ∙ c.size.ensures.is_table_size in
     let more = c.in_err-finish.ensures.beyond in
     let refused = past_refuses K g.F.Field.value text c.new-reader.result c.new-reader.ensures.at_the_start c.table_line.new.reader n k (shape_limits c.in_ok-shape.shape) got c.body.new.reader (c.size.result - 0) work ys long c.in_ok-body.ensures.lines more.0 in
     let said = subst (Refuses K text) (sym more.1) refused in
-    rw (p.1, p.2) (record { accepted = tt; refused = said; refused_has_no_table = λ e T s t. (decided K text).0 T _ s t said; table_alone_written = frame_front c.size.result 1568 work ys taken c.size.ensures.at_most_1568 c.requires.room })
+    rw (p.1, p.2) (record { accepted = tt; refused = said; refused_has_no_table = λ e T s t. (decided K text).0 T _ s t said; table_alone_written = frame_front c.size.result 1568 work ys taken c.size.ensures.at_most_largest c.requires.room })
 
 pub returns : goal.returns
 returns g c =
@@ -53,7 +53,7 @@ returns g c =
     let k = c.in_ok-shape.shape.letters in
     let work = c.args.work.now in
     let ys = c.body.new.elements in
-    let taken : length ys ≡ c.size.result = c.body.auto.elements ∙ cut_length 0 c.size.result c.size.result work (omega arith) (omega (arith, c.requires.room, c.size.ensures.at_most_1568)) in
+    let taken : length ys ≡ c.size.result = c.body.auto.elements ∙ cut_length 0 c.size.result c.size.result work (omega arith) (omega (arith, c.requires.room, c.size.ensures.at_most_largest)) in
     let long : length ys ≡ table_size n k = taken ∙ c.size.ensures.is_table_size in
     record {
       refused = tt;
