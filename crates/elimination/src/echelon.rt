@@ -8,7 +8,6 @@ use field::Field;
 use rows::row::{first_nonzero, scale_row};
 
 /// Takes from the row what the rows of `basis`, as many as there are pivots, take of it: it is zero at their pivots then.
-// Echelon form is a fact and no type: the rows lie in a longer slice, and the next one is written behind them.
 pub fn reduce_row<F: Field>(row: &mut [F], basis: &[F], pivots: &[usize])
     requires rows_within { length pivots.now * length row.old ≤ length basis.now }
     requires echelon_form { RowsInEchelon F.field F.value (length row.old) pivots.now basis.now (length row.old) }
@@ -19,8 +18,7 @@ pub fn reduce_row<F: Field>(row: &mut [F], basis: &[F], pivots: &[usize])
 }
 
 /// Copies the row to behind the rows of `echelon`, as many as there are pivots, and reduces it there. If something is left
-/// of it, makes it one at a pivot, which is answered: the rows with the new one are in echelon form again.
-// Not one with leading's `track_row`, which reduces in place, seeks a pivot among the first entries, and notes the factor.
+/// of it, makes it one at a pivot, which is returned: the rows with the new one are in echelon form again.
 pub fn keep_row<F: Field>(row: &[F], echelon: &mut [F], pivots: &[usize]) -> Option<usize>
     requires room { length pivots.now * length row.now + length row.now ≤ length echelon.old }
     requires echelon_form { RowsInEchelon F.field F.value (length row.now) pivots.now echelon.old (length row.now) }

@@ -1,4 +1,4 @@
--- Words over one letter, which are told by their length, and the fresh ones among them. Assumes nothing.
+-- Words over one letter, which their length determines, and the fresh ones among them. Assumes nothing.
 use Rattle.std.proofs.Common.{◌≡◌, ℕ, zero, suc, ◌+◌, ◌-◌, ◌<◌, [], ◌∷◌, ◌++◌, length, refl, ap, ◌∙◌, subst, ap₂, arith}
 use native.Mathlib.Decide.{dec_lt}
 use lib.ListN.{length-replicate}

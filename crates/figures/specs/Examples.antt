@@ -32,7 +32,7 @@ multiplier m = of_codes (1 ∷ []) ((m ∷ []) ∷ []) (1 ∷ [])
 abbrev pub word_of : ℕ → Word
 word_of n = replicate n 1
 
--- lines as bytes, each ended by byte 10
-abbrev pub lines : List String → List ℕ
-lines [] = []
-lines (l ∷ ls) = codes l ++ 10 ∷ lines ls
+-- the bytes of lines, each ended by byte 10
+abbrev pub bytes_of_lines : List String → List ℕ
+bytes_of_lines [] = []
+bytes_of_lines (l ∷ ls) = codes l ++ 10 ∷ bytes_of_lines ls

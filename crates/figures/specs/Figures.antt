@@ -9,7 +9,7 @@ use Rattle.text.specs.Readings.{Sized}
 use Rattle.book.specs.Verdicts.{Says}
 use Rattle.book.specs.declared.verdict.Kind.TheVariants as kinds
 use Rattle.residue.specs.Delivered.{fermat}
-use Rattle.figures.specs.Examples.{of_codes, fibonacci_with, fibonacci, multiplier, word_of, lines}
+use Rattle.figures.specs.Examples.{of_codes, fibonacci_with, fibonacci, multiplier, word_of, bytes_of_lines}
 
 pub record WorkedFigures (inverse_of_83 half : ℕ) (fibonacci_weights square_row : List ℕ) (tried kept : ℕ) : Type 0 where
   -- GF(256): 83 and its inverse
@@ -34,14 +34,14 @@ pub record WorkedFigures (inverse_of_83 half : ℕ) (fibonacci_weights square_ro
   -- the verdict on the Fibonacci table and itself
   pub itself_compared : Says fermat fibonacci fibonacci (record { kind = kinds.Alike; tried = tried; kept = kept; length = 0; first = 0; second = 0; letters = replicate 31 0 })
   -- the text of the table of one state that multiplies by 1, which is within the limits of a text
-  pub text_of_one : Sized (multiplier 1) × (text_of fermat (multiplier 1) ≡ lines (
+  pub text_of_one : Sized (multiplier 1) × (text_of fermat (multiplier 1) ≡ bytes_of_lines (
       "T          1          1      65537" ∷
       "S          1" ∷
       "M          1          1          1" ∷
       "E          1" ∷
       "Z" ∷ []))
   -- the text of the one that multiplies by 0
-  pub text_of_zero : Sized (multiplier 0) × (text_of fermat (multiplier 0) ≡ lines (
+  pub text_of_zero : Sized (multiplier 0) × (text_of fermat (multiplier 0) ≡ bytes_of_lines (
       "T          1          1      65537" ∷
       "S          1" ∷
       "M          1          1          0" ∷

@@ -7,7 +7,7 @@ use Rattle.field.specs.FiniteField.{FiniteField}
 use Rattle.field.proofs.Laws.{zero_times, neg_zero}
 use Rattle.series.specs.Words.{Word, Over}
 use Rattle.series.specs.Families.{mix}
-use Rattle.series.specs.WalkProgress.{Scanned, Upto}
+use Rattle.series.specs.WalkProgress.{Scanned}
 use Rattle.series.specs.EliminationProgress.{Echelon}
 use Rattle.field.specs.Sums.{dot, move}
 use Rattle.field.specs.Rows.{Agree, at, row_at, square_at, RowOf}
@@ -20,7 +20,7 @@ use Rattle.series.proofs.Bases.{basis_none, basis_fresh, basis_not_fresh}
 use Rattle.series.proofs.Places.{range, range_has, range_are}
 use Rattle.series.proofs.ReducedForms.{leading_prefix}
 use Rattle.series.proofs.Projections.{seen_leading, leading_seen}
-use Rattle.series.proofs.Walks.{scan_none, scan_back, scan_skip, scan_add, scan_first, scan_letter, scan_word, scan_done}
+use Rattle.series.proofs.Walks.{Upto, scan_none, scan_back, scan_skip, scan_add, scan_first, scan_letter, scan_word, scan_done}
 use Rattle.rows.specs.Memory.{Written}
 use Rattle.rows.proofs.Memory.{frame_below}
 use Rattle.field.proofs.Rows.{length_part, at_part, dot_same}

@@ -1,4 +1,4 @@
--- How far the walk through the words has come that finds the leading words. Cited by the contracts inside the walk only. Assumes nothing.
+-- How far the walk through the words has come that finds the leading words. Assumes nothing.
 use Rattle.std.specs.Prelude.{◌≡◌, ℕ, ◌<◌, ◌≤◌, List, [], ◌∷◌, ◌++◌, length, slice_index}
 use Rattle.field.specs.FiniteField.{FiniteField}
 use Rattle.series.specs.Words.{Word}

@@ -32,8 +32,7 @@ fn see_row<F: Field>(row: &[F], view: &View<'_, F>, seen: &mut [F])
     clear_row(coefficients);
 }
 
-// Writes the row of word i followed by a letter behind the rows of `count` words, and to `seen` what the view shows of it. The
-// count stands beside the rows, since their slice does not tell it: they lie 16 elements apart in work memory, with room behind.
+// Writes the row of word i followed by a letter behind the rows of `count` words, and to `seen` what the view shows of it.
 fn next_row<F: Field>(
     rows: &mut [F],
     count: usize,
@@ -62,8 +61,6 @@ fn next_row<F: Field>(
 }
 
 // Tries word i followed by one letter, and writes its coefficients.
-// The slices stay parameters: as fields of one struct each step would have to promise of each that it is the same reference
-// still, which is no plainer.
 fn try_letter<F: Field>(
     rows: &mut [F],
     tracked: &mut [F],
@@ -104,14 +101,12 @@ fn try_letters<F: Field>(
     requires due { Trying F.field F.value view.now i 1 pivots.old.items rows.old tracked.old coefficients.old }
     ensures all_tried { Trying F.field F.value view.now i (view.now.table.shape.letters + 1) pivots.new.items rows.new tracked.new coefficients.new }
 {
-    // By number: letters lie in no collection.
     for letter in 1..=view.table.letters() {
         try_letter(rows, tracked, coefficients, pivots, i, letter, view);
     }
 }
 
-// Tries each leading word followed by each letter, those too that are found on the way. Not one with the backward pass: there a
-// letter comes before a word, nothing is tracked, and columns are kept for rows.
+// Tries each leading word followed by each letter, those too that are found on the way.
 fn follow_words<F: Field>(
     rows: &mut [F],
     tracked: &mut [F],
@@ -122,7 +117,7 @@ fn follow_words<F: Field>(
     requires begun { Walked F.field F.value view.now 0 pivots.old.items rows.old tracked.old coefficients.old }
     ensures walked { Walked F.field F.value view.now (length pivots.new.items) pivots.new.items rows.new tracked.new coefficients.new }
 {
-    // The bound grows while the loop runs.
+    // the loop itself adds words, so their count is not known before it
     let mut i = 0;
     while i < pivots.len() {
         try_letters(rows, tracked, coefficients, pivots, i, view);
@@ -147,8 +142,7 @@ fn try_empty<F: Field>(rows: &mut [F], tracked: &mut [F], pivots: &mut Pivots, v
 }
 
 /// Finds the leading words, in order, with their rows, 16 elements each, and the coefficients of each followed by each letter.
-/// Answers how many there are. `tracked` is for the search.
-// So long by a clause, here and above: each is a part of work memory, cut off by a range.
+/// Returns how many there are. `tracked` is for the search.
 pub fn leading_words<F: Field>(
     rows: &mut [F],
     tracked: &mut [F],

@@ -9,15 +9,13 @@ use field::Field;
 use rows::row::{first_nonzero, scale_row};
 use spanning::WIDTH;
 
-/// How many elements a tracked row takes: 16 numbers, then 16 coefficients that say which combination of the leading words' rows
-/// they are.
+/// How many elements a tracked row takes: 16 numbers, then 16 coefficients by which they are made of the leading words'
+/// products.
 pub const TRACKED: usize = 2 * WIDTH;
 
 /// Reduces the row, which has d numbers in front and no coefficients yet, by the tracked rows, as many as there are pivots. If a
-/// number is left, makes it one at a pivot, which is answered; if none is, the row's coefficients are the opposites of those that
+/// number is left, makes it one at a pivot, which is returned; if none is, the row's coefficients are the opposites of those that
 /// it then has.
-// 32 elements, told by a clause: rows are parts of work memory that ranges cut off, and an array would be taken of each once more.
-// Not one with elimination's `keep_row`, which reduces a copy behind the others, seeks a pivot among all entries, and notes no factor.
 pub fn track_row<F: Field>(
     row: &mut [F],
     tracked: &[F],

@@ -10,8 +10,6 @@ use rows::row::dot;
 use spanning::WIDTH;
 
 /// Writes to `to` the products of the row with the first of the columns, which take 16 elements each.
-// Not rows' `matrix_times_column`, whose rows lie one behind the other: a stride would stand in the promise of each caller.
-// At most 16, told by a clause: a row that is seen through a view is of no table whose `Shape` would tell it.
 pub fn project_row<F: Field>(row: &[F], columns: &[F], to: &mut [F])
     requires short { length row.now ≤ 16 }
     requires columns_within { length to.old * 16 ≤ length columns.now }

@@ -8,7 +8,6 @@ use rows::table::TableRef;
 pub struct View<'a, F> {
     pub table: TableRef<'a, F>,
     pub columns: &'a [F],
-    // The count beside the slice: the columns lie 16 elements apart, and a slice of arrays would have to be cut out of work memory.
     pub count: usize,
     ghost few: { count ≤ 16 },
     ghost room: { 256 ≤ length columns.now },

@@ -37,7 +37,6 @@ fn write_sum_row<F: Field>(
 }
 
 /// The sum of two tables: the first table's states, then the second's.
-// Why it is not one with `multiply`, and the two tables no `Pair`, is said there.
 pub fn sum<F: Field>(left: TableRef<'_, F>, right: TableRef<'_, F>, to: &mut [F])
     requires same_letters { left.shape.letters ≡ right.shape.letters }
     requires few_states { left.shape.states + right.shape.states ≤ 16 }

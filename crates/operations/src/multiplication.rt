@@ -45,8 +45,6 @@ fn write_product_row<F: Field>(
 }
 
 /// The product of two tables: a state for each pair of states, and each number the product of the two tables' numbers.
-// What it shares with `sum` is `write_table`; what they hand it, and what each promises, differs in all else. The two tables are
-// no `Pair`, which is no plainer: where the type stood below both crates, a walk's methods would be free functions.
 pub fn multiply<F: Field>(left: TableRef<'_, F>, right: TableRef<'_, F>, to: &mut [F])
     requires same_letters { left.shape.letters ≡ right.shape.letters }
     requires few_states { left.shape.states * right.shape.states ≤ 16 }

@@ -1,4 +1,4 @@
--- The table that leading words and their coefficients are, as it is written out. Cited by the contracts inside a reduction only. Assumes nothing.
+-- The table that leading words and their coefficients are, as it is written out. Assumes nothing.
 use Rattle.std.specs.Prelude.{ℕ, List}
 use Rattle.field.specs.FiniteField.{FiniteField}
 use Rattle.field.specs.Sums.{dot}

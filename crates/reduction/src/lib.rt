@@ -18,8 +18,8 @@ use spanning::backward::spanning_columns;
 
 mod result;
 
-// Leaves the reduced form of a table at the front of `form`, and answers its number of states. What `rest` holds then, nothing is
-// promised of.
+// Writes the reduced form of a table to the front of `form`, and returns its number of states. Nothing is promised of what
+// `rest` holds then.
 fn reduce_into<F: Field>(form: &mut [F], rest: &mut [F], table: TableRef<'_, F>) -> usize
     requires room { (2048 ≤ length form.old) × (6144 ≤ length rest.old) }
     ensures reduced_form { (behind : List F) → Reduced F.field table.entry.shape.letters (weight F.field (table_of F.field F.value table.entry)) (table_at F.field F.value (form.new ++ behind) 0 result table.entry.shape.letters) }
@@ -43,9 +43,8 @@ fn reduce_into<F: Field>(form: &mut [F], rest: &mut [F], table: TableRef<'_, F>)
     found
 }
 
-/// Reduces a table: leaves its reduced form in work memory, as a table at element 0, and answers its number of states. What else
-/// work memory holds then, nothing is promised of.
-// How long it is stays a clause: an array of elements would ask its caller for one, and a shelf is lent slices.
+/// Reduces a table: writes its reduced form to work memory, as a table at element 0, and returns its number of states. Nothing
+/// is promised of the rest of work memory.
 pub fn reduce<F: Field>(work: &mut [F], table: TableRef<'_, F>) -> usize
     requires room { 8192 ≤ length work.old }
     ensures reduced_form { Reduced F.field table.entry.shape.letters (weight F.field (table_of F.field F.value table.entry)) (table_at F.field F.value work.new 0 result table.entry.shape.letters) }

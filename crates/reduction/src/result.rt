@@ -15,8 +15,6 @@ use rows::table_parts::write_table;
 use spanning::WIDTH;
 
 // Writes a row of a letter's matrix: the coefficients of leading word i followed by the letter.
-// That coefficients and rows are so long stands in clauses, also below: as arrays they would be cut off at each split, which is no
-// plainer.
 fn write_coefficients<F: Field>(coefficients: &[F], letter: usize, i: usize, row: &mut [F])
     requires small { (i < 16) × (letter ≤ 6) }
     requires short { length row.old ≤ 16 }

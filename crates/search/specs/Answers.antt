@@ -1,4 +1,4 @@
--- What the comparison of two tables answers. Assumes nothing.
+-- The result of comparing two tables. Assumes nothing.
 use Rattle.std.specs.Prelude.{◌≡◌, ℕ, ◌-◌, ◌≤◌, take, drop, replicate}
 use Rattle.field.specs.FiniteField.{FiniteField}
 use Rattle.series.specs.Tables.{Table}
@@ -25,14 +25,14 @@ pub record Reported {V : Type 0} (K : FiniteField V) (S T : Table V) (word : Rep
   pub padded : Padded word
   pub first : FirstDifference K S T (spelling word) tried left right
 
--- the answer says how the tables compare
+-- the result states how the two tables compare
 abbrev pub Compared : {V : Type 0} → FiniteField V → Table V → Table V → Comparison → Type 0
 Compared K S T (Alike tried kept) = AllAlike K S T tried kept
 Compared K S T (Differs word tried left right) = Reported K S T word tried left right
 
 -- a pair of tables that lie in memory
 module _ {V : Type 0} (K : FiniteField V) {F : Type 0} (value : F → V) (both : Pair F) where
-  -- the answer says how the two compare
+  -- the result states how the two compare
   abbrev pub Compares : Comparison → Type 0
   Compares r = Compared K (left_table K value both) (right_table K value both) r
 
@@ -40,7 +40,7 @@ module _ {V : Type 0} (K : FiniteField V) {F : Type 0} (value : F → V) (both :
   abbrev pub WeighAlike : Type 0
   WeighAlike = AllWordsAlike K (left_table K value both) (right_table K value both)
 
--- all words are said to weigh alike
+-- the result is that all words weigh alike
 abbrev pub SaysAlike : Comparison → Type 0
 SaysAlike (Alike tried kept) = Unit {0}
 SaysAlike (Differs word tried left right) = ⊥

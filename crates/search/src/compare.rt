@@ -1,5 +1,5 @@
 //! Comparing two tables: whether all words weigh alike, and if not, the first word that does not.
-ghost use Rattle.std.specs.Prelude.{◌≤◌, length as size};
+ghost use Rattle.std.specs.Prelude.{◌≤◌, length};
 ghost use Rattle.search.specs.Answers.{Compares, WeighAlike, SaysAlike, Bounded};
 
 use crate::word::{ReportedWord, empty_word, spell};
@@ -11,7 +11,7 @@ use walk::walk::{Difference, try_words};
 // Where in work memory the rows in echelon form begin; the pair rows of the kept words lie before them.
 const ECHELON: usize = 2048;
 
-/// What the comparison of two tables answers.
+/// The result of comparing two tables.
 #[derive(Clone, Copy, Debug, PartialEq, Eq)]
 pub enum Comparison {
     /// All words weigh alike: how many words were tried, and how many kept.
@@ -29,9 +29,8 @@ pub enum Comparison {
 }
 
 /// Compares two tables that have one letter count. Work memory is overwritten.
-// How long it is stays a clause: an array of elements would ask its caller for one, and a shelf is lent slices.
 pub fn compare<F: Field>(work: &mut [F], pair: Pair<'_, F>) -> Comparison
-    requires room { 8192 ≤ size work.old }
+    requires room { 8192 ≤ length work.old }
     ensures answer { Compares F.field F.value pair.entry result }
     ensures bounded { Bounded result }
     ensures alike_only_if_all_weigh_alike { SaysAlike result → WeighAlike F.field F.value pair.entry }

@@ -7,7 +7,7 @@ ghost use Rattle.search.specs.Spelling.{Spellable, Spells};
 use walk::links::{Link, Walk};
 
 /// A word of at most 31 letters; the places behind them are 0.
-// No vector of fixed room: a verdict's record has 31 places with zeros behind the letters, and a comparison can be copied.
+// An array, as in a verdict's record, which has 31 places with zeros behind the letters.
 #[derive(Clone, Copy, Debug, PartialEq, Eq)]
 pub struct ReportedWord {
     pub length: usize,
@@ -33,7 +33,6 @@ pub fn spell(walk: &Walk, last: Link) -> ReportedWord
     letters[0] = last.letter;
     let mut length = 1;
     let mut j = last.parent;
-    // `successors` is no plainer: a loop over it needs `take(31)` to have an end, a function for its step, and `length` all the same
     while j > 0 {
         let link = walk.links[j];
         letters[length] = link.letter;

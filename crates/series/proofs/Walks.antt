@@ -1,15 +1,23 @@
--- A walk through the words that looks at the words u a, for each u that it has found, in their order. Assumes nothing.
+-- A walk that tries each word that it has found, in their order, followed by each letter. Assumes nothing.
 use Rattle.std.proofs.Common.{◌≡◌, ℕ, suc, ◌+◌, ◌*◌, ◌<◌, ◌≤◌, ◌⊎◌, [], ◌∷◌, ◌++◌, sym, ap, ◌∙◌, subst, inl, inr, arith}
 use native.Mathlib.Decide.{dec_lt}
 use Rattle.std.proofs.lemmas.Nat.{mul-le}
 use Rattle.series.specs.Words.{Word, Over, ◌≺◌}
 use Rattle.series.specs.Listing.{Listed}
 use Rattle.series.specs.Comparing.{Followed}
-use Rattle.series.specs.WalkProgress.{Scanned, Upto}
+use Rattle.series.specs.WalkProgress.{Scanned}
 use Rattle.series.proofs.Words.{last_letter, over_rest}
 use Rattle.series.proofs.Orders.{≺-transitive, ≺-compare, ≺-push, ≺-last, ≺-push-back, ≺-longer, ≺-nonempty, both_ways, same_not, ≺-induction, none_before, same_before, before_same}
 use Rattle.series.proofs.Places.{below_next}
 use Rattle.series.proofs.Listings.{number_less, listed_upto, followed_list, followed_at, listed_followed}
+
+module _ (Good : Word → Type 0) where
+  -- the first n of words are the good words before x and x, if it is good
+  pub record Upto (n : ℕ) (words : ℕ → Word) (x : Word) : Type 0 where
+    pub ascends : (i j : ℕ) → i < j → j < n → words i ≺ words j
+    pub good : (i : ℕ) → i < n → Good (words i)
+    pub before : (i : ℕ) → i < n → (words i ≺ x) ⊎ (words i ≡ x)
+    pub whole : (v : Word) → Good v → (v ≺ x) ⊎ (v ≡ x) → (i : ℕ) × (i < n) × (v ≡ words i)
 
 module _ (Good : Word → Type 0) where
   -- before the empty word there is none

@@ -1,4 +1,4 @@
--- How far an elimination has come: vectors in echelon form. Cited by the contracts inside an elimination only. Assumes nothing.
+-- How far an elimination has come: vectors in echelon form. Assumes nothing.
 use Rattle.std.specs.Prelude.{◌≡◌, ℕ, ◌<◌, ◌≢◌}
 use Rattle.field.specs.FiniteField.{FiniteField}
 use Rattle.series.specs.Spans.{Span}

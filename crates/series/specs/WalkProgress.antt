@@ -1,5 +1,5 @@
--- How far a walk through the words has come that looks at the words u a, for each u that it has found, in their order. Cited by the contracts inside a walk only. Assumes nothing.
-use Rattle.std.specs.Prelude.{◌≡◌, ℕ, ◌<◌, ◌⊎◌}
+-- How far a walk has come that tries each word that it has found, in their order, followed by each letter. Assumes nothing.
+use Rattle.std.specs.Prelude.{◌≡◌, ℕ, ◌<◌}
 use Rattle.series.specs.Words.{Word, ◌≺◌}
 
 module _ (Good : Word → Type 0) where
@@ -9,10 +9,3 @@ module _ (Good : Word → Type 0) where
     pub good : (i : ℕ) → i < n → Good (words i)
     pub before : (i : ℕ) → i < n → words i ≺ x
     pub whole : (v : Word) → Good v → v ≺ x → (i : ℕ) × (i < n) × (v ≡ words i)
-
-  -- the first n of words are the good words before x and x, if it is good
-  pub record Upto (n : ℕ) (words : ℕ → Word) (x : Word) : Type 0 where
-    pub ascends : (i j : ℕ) → i < j → j < n → words i ≺ words j
-    pub good : (i : ℕ) → i < n → Good (words i)
-    pub before : (i : ℕ) → i < n → (words i ≺ x) ⊎ (words i ≡ x)
-    pub whole : (v : Word) → Good v → (v ≺ x) ⊎ (v ≡ x) → (i : ℕ) × (i < n) × (v ≡ words i)

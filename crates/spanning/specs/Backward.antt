@@ -1,4 +1,4 @@
--- How far the search for spanning columns has come. Cited by the contracts inside that search only. Assumes nothing.
+-- How far the search for spanning columns has come. Assumes nothing.
 use Rattle.std.specs.Prelude.{◌≡◌, ℕ, ◌<◌, ◌≤◌, List, [], ◌∷◌, length, slice_index}
 use Rattle.field.specs.FiniteField.{FiniteField}
 use Rattle.series.specs.Words.{Word, Over}

@@ -11,8 +11,6 @@ use rows::row::matrix_times_column;
 use rows::table::TableRef;
 
 // Tries the column of word i with one letter before it.
-// The slices stay parameters: as fields of one struct each step would have to promise of each that it is the same reference
-// still, which is no plainer.
 fn try_column<F: Field>(
     columns: &mut [F],
     echelon: &mut [F],
@@ -49,14 +47,12 @@ fn try_columns<F: Field>(
     ensures all_tried { ColumnDue F.field F.value (table_of F.field F.value table.entry) i (table.entry.shape.letters + 1) pivots.new.items columns.new echelon.new }
     ensures word_found { i < length pivots.new.items }
 {
-    // By number: letters lie in no collection.
     for letter in 1..=table.letters() {
         try_column(columns, echelon, pivots, i, letter, table);
     }
 }
 
-// Tries the column of each word with each letter before it, those too that are found on the way. Not one with the forward pass,
-// which tracks of what each row is made, and looks at rows through these columns.
+// Tries the column of each word with each letter before it, those too that are found on the way.
 fn close_columns<F: Field>(
     columns: &mut [F],
     echelon: &mut [F],
@@ -67,7 +63,7 @@ fn close_columns<F: Field>(
     ensures spanned { Spanned F.field F.value (table_of F.field F.value table.entry) (length pivots.new.items) columns.new }
     ensures few { length pivots.new.items ≤ table.entry.shape.states }
 {
-    // The bound grows while the loop runs.
+    // the loop itself adds words, so their count is not known before it
     let mut i = 0;
     while i < pivots.len() {
         try_columns(columns, echelon, pivots, i, table);
@@ -93,9 +89,8 @@ fn try_end<F: Field>(
     }
 }
 
-/// Finds columns that span the columns of all words, and answers how many there are. Each takes 16 elements of `columns`, where
+/// Finds columns that span the columns of all words, and returns how many there are. Each takes 16 elements of `columns`, where
 /// there is room for one more than there can be; `echelon` is for the search.
-// So long by a clause: columns and rows are parts of work memory, cut off by ranges.
 pub fn spanning_columns<F: Field>(
     columns: &mut [F],
     echelon: &mut [F],

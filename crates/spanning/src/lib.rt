@@ -1,5 +1,5 @@
-//! The backward pass of a reduction, which finds columns that span the columns of all words. What a reduction finds lies in slices
-//! that are lent, apart from each other.
+//! The backward pass of a reduction, which finds columns that span the columns of all words. What a reduction finds lies in lent
+//! slices that do not overlap.
 #![tactic(auto)]
 
 use arrayvec::ArrayVec;

@@ -5,12 +5,12 @@ use Rattle.field.specs.FiniteField.{FiniteField}
 use Rattle.series.specs.Comparing.{Alike, Kept, Tried}
 use Rattle.series.specs.Listing.{Listed, Count}
 use Rattle.series.specs.Tables.{Table, weight}
-use Rattle.series.specs.WalkProgress.{Scanned, Upto}
+use Rattle.series.specs.WalkProgress.{Scanned}
 use Rattle.series.specs.Words.{Word, Over}
 use Rattle.series.proofs.KeptWords.{kept_decide, found_difference, found_short, tried_listed}
 use Rattle.series.proofs.Listings.{followed_list}
 use Rattle.series.proofs.Orders.{none_before}
-use Rattle.series.proofs.Walks.{scan_none, scan_followed}
+use Rattle.series.proofs.Walks.{Upto, scan_none, scan_followed}
 use Rattle.series.proofs.Words.{over_append}
 use Rattle.walk.specs.Comparing.{NotAfter, AllAlike, FirstDifference}
 use Rattle.walk.specs.Pairs.{Unlike}

@@ -4,10 +4,10 @@ use Rattle.field.specs.FiniteField.{FiniteField}
 use Rattle.series.specs.Comparing.{Kept}
 use Rattle.field.specs.Rows.{Agree, at, row_at, square_at}
 use Rattle.series.specs.Tables.{Table, weight, pair}
-use Rattle.series.specs.WalkProgress.{Scanned, Upto}
+use Rattle.series.specs.WalkProgress.{Scanned}
 use Rattle.series.specs.Words.{Word, Over}
 use Rattle.series.proofs.KeptWords.{kept_prefix}
-use Rattle.series.proofs.Walks.{scan_none, scan_back, scan_skip, scan_add, scan_first, scan_letter, scan_word, scan_done}
+use Rattle.series.proofs.Walks.{Upto, scan_none, scan_back, scan_skip, scan_add, scan_first, scan_letter, scan_word, scan_done}
 use Rattle.rows.specs.Memory.{Frame}
 use Rattle.elimination.specs.Elimination.{NothingLeft, NewRow}
 use Rattle.walk.specs.Walking.{kept, Noted, Linked, Held, Ready, Passed}

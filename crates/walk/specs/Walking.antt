@@ -1,4 +1,4 @@
--- How far a walk through the tried words of two tables has come. Cited by the contracts inside the walk only. Assumes nothing.
+-- How far a walk through the tried words of two tables has come. Assumes nothing.
 use Rattle.std.specs.Prelude.{◌≡◌, ℕ, ◌+◌, ◌*◌, ◌<◌, ◌≤◌, List, [], ◌∷◌, ◌++◌, length, slice_index, slice_index_or}
 use Rattle.field.specs.FiniteField.{FiniteField}
 use Rattle.series.specs.Comparing.{Kept}
@@ -66,7 +66,7 @@ module _ {F V : Type 0} (K : FiniteField V) (v : F → V) (S T : Table V) where
     pub next : i < kept w → Scanned (Kept K S T) (kept w) words (words i ++ 1 ∷ [])
     pub done : i ≡ kept w → (u : Word) → Kept K S T u → (j : ℕ) × (j < kept w) × (u ≡ words j)
 
--- the kept word with the letter that the link tells is the least difference
+-- the kept word and letter of the link are the least difference
 pub record FoundDifference {V : Type 0} (K : FiniteField V) (S T : Table V) (w : Walk) (f : Found) : Type 0 where
   pub words : ℕ → Word
   pub linked : Linked (kept w) words w.links.items
@@ -104,5 +104,5 @@ module _ {F V : Type 0} (K : FiniteField V) (v : F → V) (both : Pair F) where
 
   -- this difference is the least one
   abbrev pub DiffersFirst : Walk → Difference → Type 0
-  DiffersFirst w (Empty codes) = EmptyDiffers codes
+  DiffersFirst w (Empty weights) = EmptyDiffers weights
   DiffersFirst w (Longer f) = LinkDiffers w f

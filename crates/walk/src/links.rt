@@ -3,8 +3,7 @@ ghost use Rattle.std.specs.Prelude.{◌≡◌, ◌<◌, length};
 
 use arrayvec::ArrayVec;
 
-/// A word by the number of the kept word that it is without its last letter, and that letter. The empty word's is never read.
-// By a number, since there is no heap for words that hold one another; no `Option`, since only the empty word has no link.
+/// A word, as the number of the kept word that it is without its last letter, and that letter. The empty word's is never read.
 #[derive(Clone, Copy, Debug, Default, PartialEq, Eq)]
 pub struct Link {
     pub parent: usize,
@@ -12,7 +11,7 @@ pub struct Link {
 }
 
 /// The kept words so far: the pivots of the rows in echelon form, and the words' links.
-// Two vectors and not one of pairs: the pivots are read as a slice.
+// Two vectors, since the pivots are read as a slice.
 #[derive(Drop)]
 pub struct Walk {
     pub pivots: ArrayVec<usize, 32>,

@@ -13,7 +13,7 @@ pub struct Pair<'a, F> {
     ghost same_letters: { right.shape.letters ≡ left.shape.letters },
 }
 
-// By hand, as Copy below: over a ghost field of a generic struct the checker refuses a derive of Clone.
+// Written by hand: neither is derived on a generic struct with a ghost field.
 impl<'a, F> Clone for Pair<'a, F> {
     ghost is_clone = { λ p r. r ≡ p };
 
@@ -45,7 +45,7 @@ impl<'a, F: Field> Pair<'a, F> {
     }
 
     /// Writes to `to` the pair row of the empty word.
-    // Not by rows' `write_beside`: long walks took 6 to 8 in a hundred longer with it, and missed the bench's aim.
+    // With rows' `write_beside` in place of the two copies, long walks took 6 to 8 percent longer.
     pub fn start_row(self, to: &mut [F])
         requires as_long { length to.old ≡ width self }
         ensures pair_row_of_empty_word { PairRow F.field F.value self.entry [] to.new }

@@ -40,8 +40,6 @@ impl From<Found> for Difference {
 
 // Tries a kept word with one letter more: keeps it if its pair row is no combination of those of the kept words, or stops at it
 // if it weighs differently.
-// The slices stay parameters: as fields of one struct each step would have to promise of each that it is the same reference
-// still, which is no plainer.
 fn try_letter<F: Field>(
     rows: &mut [F],
     echelon: &mut [F],
@@ -88,9 +86,8 @@ fn try_letters<F: Field>(
         walk.new rows.new echelon.new) }
     ensures err { IfErr result (LinkDiffers F.field F.value pair.entry walk.new) }
 {
-    // By number: letters lie in no collection.
     for letter in 1..=pair.left.letters() {
-        // a cast, since a failure of `try_from` cannot come: there are at most six letters
+        // there are at most six letters, so the cast keeps the number
         let link = Link {
             parent: i,
             letter: letter as u8,
@@ -125,7 +122,6 @@ fn try_empty<F: Field>(
 }
 
 // Tries each kept word with each letter, those too that are kept on the way.
-// Not one with the passes of a reduction: a walk ends at a difference, notes the words' links, and each of the three keeps other rows.
 fn try_rest<F: Field>(
     rows: &mut [F],
     echelon: &mut [F],
@@ -138,7 +134,7 @@ fn try_rest<F: Field>(
         walk.new rows.new echelon.new) }
     ensures err { IfErr result (LinkDiffers F.field F.value pair.entry walk.new) }
 {
-    // the kept words become more while they are walked through, so that no range has their count
+    // the loop itself adds kept words, so their count is not known before it
     let mut i = 0;
     while i < walk.count() {
         try_letters(rows, echelon, walk, pair, i)?;
