@@ -121,7 +121,7 @@ impl<F: Field, A: Abort + Copy> Bench<F, A> {
         self.check(ALL, &[(load(&pair, 6), DONE)]);
     }
 
-    // What comes of one call, which leaves the verdict record as it was: no compare that is made here is accepted.
+    // Makes one call, which leaves the verdict record as it was: no compare that is made here is accepted.
     fn make(&mut self, lent: Lent, call: &Call<&[u8]>) -> Outcome {
         self.verdict = ODD_VERDICT;
         let shelf = &mut self.shelf[..];
@@ -141,7 +141,7 @@ impl<F: Field, A: Abort + Copy> Bench<F, A> {
         outcome
     }
 
-    /// Makes the requested calls as one list: how many.
+    /// Makes the requested calls as one list, and returns how many were made.
     pub fn perform(&mut self, requests: &[Request<'_>], outcomes: &mut [Outcome]) -> usize {
         self.verdict = ODD_VERDICT;
         self.directory.perform(
@@ -163,7 +163,6 @@ impl<F: Field, A: Abort + Copy> Bench<F, A> {
     }
 
     /// Each call is refused for this reason.
-    // Not by `check`, whose cases would each name the one outcome.
     pub fn check_refused(&mut self, lent: Lent, refusal: Refusal, calls: &[Call<&[u8]>]) {
         for (i, call) in calls.iter().enumerate() {
             let made = self.make(lent, call);
