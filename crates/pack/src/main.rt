@@ -116,8 +116,10 @@ impl OverField for Packing<'_> {
         let mut shelf = [F::zero(); SHELF];
         let mut work = [F::zero(); WORK];
         let mut output = [0u8; LONGEST];
-        let done = pack(&mut shelf, &mut work, &mut output, text).map_err(|refusal| refused(
-            rt, name, refusal,
+        let done = pack(&mut shelf, &mut work, &mut output, text).map_err(|e| refused(
+            rt,
+            name,
+            e.refusal(),
         ))?;
         // By the contract of `pack` neither can be; the text is not written where one is.
         if done.verdict.kind != Kind::Alike || done.bytes > output.len() {

@@ -1,3 +1,4 @@
 mod Same
-mod Hindrances
+mod Forms
+mod Failures
 mod Packs

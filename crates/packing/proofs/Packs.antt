@@ -1,11 +1,11 @@
 -- What the calls of packing did, put together. Assumes nothing.
-use Rattle.std.proofs.Common.{◌≡◌, ℕ, ◌≤◌, ◌≢◌, List, length, replicate, Err, Result, sym, refl, ap, ◌∙◌, subst, inl, inr, arith, MatchResult, Ok}
+use Rattle.std.proofs.Common.{◌≡◌, ℕ, ◌≤◌, ◌≢◌, List, map, length, replicate, Err, Result, sym, refl, ap, ◌∙◌, subst, inl, inr, arith, IfErr, Ok}
 use Rattle.field.specs.FiniteField.{FiniteField}
 use Rattle.series.specs.Words.{Word, Over}
 use Rattle.series.specs.Tables.{Table, weight, SameTable}
 use Rattle.series.specs.Reducing.{Reduced}
 use Rattle.series.proofs.Weights.{same_weight}
-use Rattle.series.proofs.ReducedForms.{reduced_weight, reduced_least, reduced_alike}
+use Rattle.series.proofs.ReducedForms.{reduced_weight, reduced_alike}
 use Rattle.rows.specs.Layout.{table_at}
 use Rattle.rows.specs.Tables.{TableWritten}
 use Rattle.rows.proofs.Memory.{frame_below}
@@ -25,10 +25,12 @@ use Rattle.book.proofs.Places.{at_same, at_other, length_with}
 use Rattle.text.proofs.Limits.{block_fits}
 use Rattle.book.proofs.Blocks.{same_sym, same_trans, same_by_values}
 use Rattle.shelf.specs.Views.{shelf_of, state}
-use Rattle.packing.specs.Packing.{Reduction, Packs, Hindered}
+use Rattle.packing.specs.Packing.{PackedForm, InShelf, Packs, Fails}
+use Rattle.packing.specs.declared.error.PackError.TheVariants.{OutputShort as no_room}
+use Rattle.packing.proofs.Forms.{packed_sized}
 use Rattle.text.proofs.SameTexts.{text_same}
 use Rattle.packing.proofs.Same.{reduced_table}
-use Rattle.packing.proofs.Hindrances.{first, second, memory_enough, work_enough, room_enough, never_reduce, never_compare, write_hindered}
+use Rattle.packing.proofs.Failures.{first, second, memory_enough, work_enough, room_enough, never_reduce, never_compare, write_fails}
 
 abbrev count_in : Answer → ℕ
 count_in Done = 0
@@ -36,9 +38,9 @@ count_in (Code c) = 0
 count_in (Told v) = 0
 count_in (Count n) = n
 
--- a refusal that came through `?`
-pub stopped : {X E : Type 0} (P : X → Type 0) (Q : E → Type 0) (r : Result X E) {e : E} → (y : E) × (r ≡ Err y) × (y ≡ e) → Q e → MatchResult r P Q
-stopped P Q r (y, p, q) h = subst (λ z. MatchResult z P Q) (sym p) (subst Q (sym q) h)
+-- an error that came through `?`
+pub failed : {X E : Type 0} (Q : E → Type 0) (r : Result X E) {e : E} → (y : E) × (r ≡ Err y) × (y ≡ e) → Q e → IfErr r Q
+failed Q r (y, p, q) h = subst (λ z. IfErr z Q) (sym p) (subst Q (sym q) h)
 
 abbrev Full : Entry → Type 0
 Full empty = ⊥
@@ -127,13 +129,17 @@ module _ {V : Type 0} (K : FiniteField V) {F : Type 0} (value : F → V) (text :
     TReduced = reduced_table K T.letters (weight K T) R₀ R (same_sym R R₀ RSame)
         (subst (λ k. Reduced K k (weight K T) R₀) (ap letters_of (entry_1 ∙ sym entry_1_still)) (reduced_alike K (letters_of (at_place empty es₁ 1)) (weight K (table K value (shelf_of es₁ mem₁) 1)) (weight K T) R₀ TWeighs reduces.1.1.1))
 
-    abbrev reduction : Reduction K value text mem mem₂
-    reduction = record {
+    abbrev form : PackedForm K text
+    form = record {
       table = T;
       sized = subst (λ e. Limits (states_of e) (letters_of e)) (sym entry_1_still) sized;
-      told = loaded.1.1.2 ∙ text_same K T₀ T (same_sym T T₀ TSame);
+      is = loaded.1.1.2 ∙ text_same K T₀ T (same_sym T T₀ TSame);
       packed = R;
       reduced = TReduced;
+    }
+
+    in_shelf : InShelf K value T R mem mem₂
+    in_shelf = record {
       between = mem₁;
       table_written = subst (λ e. TableWritten K value 0 (table_at K value mem₂ 0 (states_of e) (letters_of e)) mem mem₁) (sym entry_1_still)
           (record { same = same_sym (table_at K value mem₂ 0 T₀.states T₀.letters) (table_at K value mem₁ 0 T₀.states T₀.letters) stays; frame = making.numbers.frame });
@@ -141,13 +147,9 @@ module _ {V : Type 0} (K : FiniteField V) {F : Type 0} (value : F → V) (text :
           (record { same = same_by_values K value mem₂ mem₂ 1568 R₀.states R₀.letters (λ i low high. refl); frame = reducing.numbers.frame });
     }
 
-    -- the reduced form's text goes by its size
+    -- the length of the packed text
     size : length (text_of K R) ≡ text_size R.states R.letters
-    size = length_is K R (record {
-      states = omega (arith, reduced_least K T.letters (weight K T) R TReduced T (λ u o. refl), reduction.sized.states);
-      some_letter = omega (arith, TReduced.letters, reduction.sized.some_letter);
-      letters = omega (arith, TReduced.letters, reduction.sized.letters);
-    })
+    size = length_is K R (packed_sized K text form)
 
     memory₂ : 12544 ≤ length mem₂
     memory₂ = omega (arith, memory₁, reducing.numbers.frame.len)
@@ -161,8 +163,8 @@ module _ {V : Type 0} (K : FiniteField V) {F : Type 0} (value : F → V) (text :
         (not_empty (at_place empty es₂ 1) T₀.states T₀.letters entry_1_still) full_2 (sym TReduced.letters) r h.meets
 
     -- and is written, unless there is no room for it
-    pub writes_then : (w₃ : ℕ) (v' : Verdict) (r : Refusal) → Refuses K (state es₂ mem₂ w₃ out v') (write 2) r → Hindered K value text w (length out) mem mem₂ r
-    writes_then w₃ v' r h = write_hindered K (state es₂ mem₂ w₃ out v') memory₂ value text w mem mem₂ reduction memory working size full_2 r h.meets
+    pub writes_then : (w₃ : ℕ) (v' : Verdict) (r : Refusal) → Refuses K (state es₂ mem₂ w₃ out v') (write 2) r → Fails K value text w (length out) mem mem₂ no_room
+    writes_then w₃ v' r h = write_fails K (state es₂ mem₂ w₃ out v') memory₂ value text w mem mem₂ form in_shelf memory working size full_2 r h.meets
 
     alike : (u : Word) → Over T.letters u → weight K T u ≡ weight K R u
     alike u o = sym (reduced_weight K T.letters (weight K T) R TReduced u o)
@@ -177,7 +179,8 @@ module _ {V : Type 0} (K : FiniteField V) {F : Type 0} (value : F → V) (text :
       packs before after b a = record {
         memory_enough = memory;
         work_enough = working;
-        reduction = reduction;
+        form = form;
+        in_shelf = in_shelf;
         room = omega (arith, size, room_enough K (state es₂ mem₂ w₃ out v') (writes.0 OutputShort));
         written = ap (λ l. l.output) writes.1.1.lent;
         counted = ap count_in writes.1.0;

@@ -1,1 +1,3 @@
+pub mod Errors
 pub mod Packing
+pub mod Theorems

@@ -1,8 +1,8 @@
--- Why packing stops: which refusals each of its calls can give. Assumes nothing.
+-- Why packing fails: the refusals that each of its calls can give. Assumes nothing.
 use Rattle.std.proofs.Common.{◌≡◌, ℕ, ◌<◌, ◌≤◌, ◌≢◌, List, length, sym, subst, inl, inr, arith}
 use native.Mathlib.Decide.{dec_lt}
 use Rattle.field.specs.FiniteField.{FiniteField}
-use Rattle.text.specs.Texts.{text_of, text_size}
+use Rattle.text.specs.Texts.{text_size}
 use Rattle.book.specs.Shelves.{empty, State, Place, entry, states_of, letters_of}
 use Rattle.book.specs.Calls.{load, reduce, compare, write}
 use Rattle.book.specs.Refusals.{refusal_number}
@@ -10,7 +10,8 @@ use Rattle.book.specs.Refusing.{Meets, outside, short_memory, short_work, vacant
 use Rattle.book.specs.declared.refusal.Refusal.{Refusal}
 use Rattle.book.specs.declared.refusal.Refusal.TheVariants.{MemoryShort, WorkShort, OutputShort}
 use Rattle.book.proofs.OneRefusal.{high}
-use Rattle.packing.specs.Packing.{Reduction, Hindered, short_memory as no_memory, short_work as no_work, unreadable, short_output}
+use Rattle.packing.specs.Packing.{PackedForm, InShelf, packed_text, Fails, short_memory as no_memory, short_work as no_work, unreadable, short_output}
+use Rattle.packing.specs.declared.error.PackError.TheVariants.{Refused, OutputShort as no_room}
 
 pub first : Place 1
 first = (omega arith, omega arith)
@@ -35,10 +36,10 @@ module _ {V : Type 0} (K : FiniteField V) {F : Type 0} (s : State F) where
         go (yes l) = absurd (h (short_work l))
         go (no u) = omega arith
 
-    pub load_hindered : (value : F → V) (room : ℕ) (ys : List F) (r : Refusal) → Refuses K s (load text 1) r → ys ≡ s.shelf.memory → Hindered K value text s.lent.work room s.shelf.memory ys r
-    load_hindered value room ys r h e = go r h.meets h.first
+    pub load_fails : (value : F → V) (room : ℕ) (ys : List F) (r : Refusal) → Refuses K s (load text 1) r → ys ≡ s.shelf.memory → Fails K value text s.lent.work room s.shelf.memory ys (Refused r)
+    load_fails value room ys r h e = go r h.meets h.first
       where
-        go : (r : Refusal) → Meets K s (load text 1) r → ((o : Refusal) → Meets K s (load text 1) o → refusal_number r ≤ refusal_number o) → Hindered K value text s.lent.work room s.shelf.memory ys r
+        go : (r : Refusal) → Meets K s (load text 1) r → ((o : Refusal) → Meets K s (load text 1) o → refusal_number r ≤ refusal_number o) → Fails K value text s.lent.work room s.shelf.memory ys (Refused r)
         go r (outside p (inl b) u) least = absurd b
         go r (outside p (inr (inl d)) u) least = absurd (u (subst Place (sym d) first))
         go r (outside p (inr (inr b)) u) least = absurd b
@@ -80,13 +81,13 @@ module _ {V : Type 0} (K : FiniteField V) {F : Type 0} (s : State F) where
       never_compare full₂ alike r (compare_letters u) = u alike
 
     -- write stops for want of room only
-    pub write_hindered : (value : F → V) (text : List ℕ) (work : ℕ) (xs ys : List F) (d : Reduction K value text xs ys) → 12544 ≤ length xs → 8192 ≤ work → length (text_of K d.packed) ≡ text_size (states_of (entry s.shelf 2)) (letters_of (entry s.shelf 2))
-        → entry s.shelf 2 ≢ empty → (r : Refusal) → Meets K s (write 2) r → Hindered K value text work (length s.lent.output) xs ys r
-    write_hindered value text work xs ys d m k n full r (outside p (inl (inl e)) u) = absurd (u (subst Place (sym e) second))
-    write_hindered value text work xs ys d m k n full r (outside p (inl (inr b)) u) = absurd b
-    write_hindered value text work xs ys d m k n full r (outside p (inr b) u) = absurd b
-    write_hindered value text work xs ys d m k n full r (short_memory h) = absurd (omega arith)
-    write_hindered value text work xs ys d m k n full r (short_work h) = absurd (omega arith)
-    write_hindered value text work xs ys d m k n full r (vacant p (inl e) z) = absurd (full (subst (λ q. entry s.shelf q ≡ empty) e z))
-    write_hindered value text work xs ys d m k n full r (vacant p (inr b) z) = absurd b
-    write_hindered value text work xs ys d m k n full r (write_room h) = short_output m k d (rw n h)
+    pub write_fails : (value : F → V) (text : List ℕ) (work : ℕ) (xs ys : List F) (p : PackedForm K text) → InShelf K value p.table p.packed xs ys → 12544 ≤ length xs → 8192 ≤ work → length (packed_text K p) ≡ text_size (states_of (entry s.shelf 2)) (letters_of (entry s.shelf 2))
+        → entry s.shelf 2 ≢ empty → (r : Refusal) → Meets K s (write 2) r → Fails K value text work (length s.lent.output) xs ys no_room
+    write_fails value text work xs ys f l m k n full r (outside p (inl (inl e)) u) = absurd (u (subst Place (sym e) second))
+    write_fails value text work xs ys f l m k n full r (outside p (inl (inr b)) u) = absurd b
+    write_fails value text work xs ys f l m k n full r (outside p (inr b) u) = absurd b
+    write_fails value text work xs ys f l m k n full r (short_memory h) = absurd (omega arith)
+    write_fails value text work xs ys f l m k n full r (short_work h) = absurd (omega arith)
+    write_fails value text work xs ys f l m k n full r (vacant p (inl e) z) = absurd (full (subst (λ q. entry s.shelf q ≡ empty) e z))
+    write_fails value text work xs ys f l m k n full r (vacant p (inr b) z) = absurd b
+    write_fails value text work xs ys f l m k n full r (write_room h) = short_output m k f l (rw n h)
