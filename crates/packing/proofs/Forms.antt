@@ -10,7 +10,7 @@ use Rattle.text.specs.Readings.{Sized}
 use Rattle.text.specs.Facts.{ToldApart}
 use Rattle.packing.specs.Packing.{PackedForm, packed_text}
 use Rattle.packing.specs.Theorems.{PackedStates, SamePackedText}
-use Rattle.packing.proofs.Same.{text_same}
+use Rattle.text.proofs.SameTexts.{text_same}
 
 module _ {V : Type 0} (K : FiniteField V) where
   pub smallest : PackedStates K (λ packed other. packed ≤ other)

@@ -12,7 +12,7 @@ use Rattle.book.specs.declared.refusal.Refusal.TheVariants.{LettersDiffer, Unrea
 use Rattle.book.specs.declared.verdict.Kind.TheVariants as kinds
 use Rattle.book.specs.declared.verdict.Verdict.{Verdict}
 use Rattle.book.proofs.OneVerdict.{one_kind, says_one}
-use Rattle.report.specs.Reports.{IsText, Tells, first_refused, second_refused, letters_differ, alike, different, refused_line, WeighAlike, OneLine, BeginsWhereAlike}
+use Rattle.report.specs.Reports.{IsText, ReportLine, first_refused, second_refused, letters_differ, alike, different, refused_line, WeighAlike, OneLine, BeginsWhereAlike}
 use Rattle.report.specs.Findings.{verdict_line}
 use Rattle.report.proofs.SameVerdicts.{says_same}
 
@@ -41,7 +41,7 @@ module _ {V : Type 0} (K : FiniteField V) (told_apart : ToldApart K) (decided : 
       bad : (f : LoadFault) → Refuses K first f → l ≡ refused_line 1 (Unreadable f) → Any l
       good : (S : Table V) → IsText K first S → Later S l → Any l
 
-    any : (l : List ℕ) → Tells K first second l → Any l
+    any : (l : List ℕ) → ReportLine K first second l → Any l
     any l (first_refused f h) = bad f h refl
     any l (second_refused S f a h) = good S a (bad f h refl)
     any l (letters_differ S T a b h) = good S a (good T b (unlike h refl))
@@ -67,14 +67,14 @@ module _ {V : Type 0} (K : FiniteField V) (told_apart : ToldApart K) (decided : 
       any_one (good S a r) (bad f h e) = absurd (clash first S f a h)
       any_one (good S a r) (good S' b q) = later_one S S' (same first S S' a b) r q
 
-    begins : (l : List ℕ) → Tells K first second l → get_or l 0 0 ≡ 81 → WeighAlike K first second
+    begins : (l : List ℕ) → ReportLine K first second l → get_or l 0 0 ≡ 81 → WeighAlike K first second
     begins l (first_refused f h) e = absurd (omega arith)
     begins l (second_refused S f a h) e = absurd (omega arith)
     begins l (letters_differ S T a b h) e = absurd (omega arith)
     begins l (alike S T v h s) e = record { S = S; T = T; texts = h; all_alike = s.alike }
     begins l (different S T v h s) e = absurd (omega arith)
 
-    begun : (l : List ℕ) → Tells K first second l → WeighAlike K first second → get_or l 0 0 ≡ 81
+    begun : (l : List ℕ) → ReportLine K first second l → WeighAlike K first second → get_or l 0 0 ≡ 81
     begun l (first_refused f h) w = absurd (clash first w.S f w.texts.left h)
     begun l (second_refused S f a h) w = absurd (clash second w.T f w.texts.right h)
     begun l (letters_differ S T a b h) w = absurd (h ((same first S w.S a w.texts.left).letters ∙ w.texts.letters ∙ sym (same second T w.T b w.texts.right).letters))

@@ -1,4 +1,4 @@
--- What was found of two texts, and the line that tells it. Assumes nothing.
+-- What was found of two texts, and the line that reports it. Assumes nothing.
 use Rattle.std.specs.Prelude.{◌≡◌, ℕ, ◌^◌, ◌<◌, ◌≤◌, List, ◌++◌, length, drop, Ok, Err, Result}
 use Rattle.book.specs.declared.verdict.Kind.{Kind}
 use Rattle.book.specs.declared.verdict.Kind.TheVariants as kinds
@@ -12,14 +12,14 @@ abbrev pub verdict_line : Kind → Verdict → List ℕ
 verdict_line kinds.Alike v = alike_line v
 verdict_line kinds.Differs v = different_line v
 
--- the line that tells what was found; the two texts are numbered 1 and 2, and 0 stands for the two together
+-- the line that reports what was found; the texts are numbered 1 and 2, and 0 stands for the two together
 abbrev pub finding_line : Result Verdict Rejection → List ℕ
 finding_line (Ok v) = verdict_line v.kind v
 finding_line (Err (First r)) = refused_line 1 r
 finding_line (Err (Second r)) = refused_line 2 r
 finding_line (Err (Together r)) = refused_line 0 r
 
--- the numbers of a verdict fit their columns, and the word that it reports its 31 places
+-- the numbers of a verdict fit their columns, and the reported word has at most 31 letters
 pub record Fits (v : Verdict) : Type 0 where
   pub tried : v.tried < 10 ^ 10
   pub kept : v.kept < 10 ^ 10

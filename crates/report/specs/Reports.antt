@@ -37,18 +37,18 @@ module _ {V : Type 0} (K : FiniteField V) where
     pub right : IsText second T
     pub letters : S.letters ≡ T.letters
 
-  -- the line that tells of two texts; the second is not read where the first is refused
-  pub data Tells (first second : List ℕ) : List ℕ → Type 0 where
-    first_refused : (f : LoadFault) → Refuses K first f → Tells first second (refused_line 1 (Unreadable f))
-    second_refused : (S : Table V) (f : LoadFault) → IsText first S → Refuses K second f → Tells first second (refused_line 2 (Unreadable f))
-    letters_differ : (S T : Table V) → IsText first S → IsText second T → S.letters ≢ T.letters → Tells first second (refused_line 0 LettersDiffer)
-    alike : (S T : Table V) (v : Verdict) → AreTexts first second S T → SaysAlike K S T v → Tells first second (alike_line v)
-    different : (S T : Table V) (v : Verdict) → AreTexts first second S T → SaysDifferent K S T v → Tells first second (different_line v)
+  -- the line that reports on two texts; the second is not read where the first is refused
+  pub data ReportLine (first second : List ℕ) : List ℕ → Type 0 where
+    first_refused : (f : LoadFault) → Refuses K first f → ReportLine first second (refused_line 1 (Unreadable f))
+    second_refused : (S : Table V) (f : LoadFault) → IsText first S → Refuses K second f → ReportLine first second (refused_line 2 (Unreadable f))
+    letters_differ : (S T : Table V) → IsText first S → IsText second T → S.letters ≢ T.letters → ReportLine first second (refused_line 0 LettersDiffer)
+    alike : (S T : Table V) (v : Verdict) → AreTexts first second S T → SaysAlike K S T v → ReportLine first second (alike_line v)
+    different : (S T : Table V) (v : Verdict) → AreTexts first second S T → SaysDifferent K S T v → ReportLine first second (different_line v)
 
-  -- what becomes of an output, and how many bytes are written: nothing where it has less than 387 bytes, and else the line at its front, while later bytes stay
+  -- how many bytes are written, and the output after that: nothing where it has fewer than 387 bytes, and else the line at its front, while later bytes stay
   pub data Reports (first second output : List ℕ) : ℕ → List ℕ → Type 0 where
     no_room : length output < 387 → Reports first second output 0 output
-    told : (l : List ℕ) → 387 ≤ length output → Tells first second l → Reports first second output (length l) (l ++ drop (length l) output)
+    written : (l : List ℕ) → 387 ≤ length output → ReportLine first second l → Reports first second output (length l) (l ++ drop (length l) output)
 
   -- both are texts of tables with one letter count that weigh every word alike
   pub record WeighAlike (first second : List ℕ) : Type 0 where
@@ -57,10 +57,10 @@ module _ {V : Type 0} (K : FiniteField V) where
     pub texts : AreTexts first second S T
     pub all_alike : Alike K S T
 
-  -- a line that tells of two texts begins with this byte exactly where they are those of tables that weigh every word alike
+  -- a report line begins with this byte exactly where the texts are those of tables that weigh every word alike
   abbrev pub BeginsWhereAlike : ℕ → Type 0
-  BeginsWhereAlike b = (first second l : List ℕ) → Tells first second l → (slice_index l 0 ≡ b) ↔ WeighAlike first second
+  BeginsWhereAlike b = (first second l : List ℕ) → ReportLine first second l → (slice_index l 0 ≡ b) ↔ WeighAlike first second
 
-  -- two texts have one line
+  -- two texts have one report line
   abbrev pub OneLine : Type 0
-  OneLine = (first second l m : List ℕ) → Tells first second l → Tells first second m → l ≡ m
+  OneLine = (first second l m : List ℕ) → ReportLine first second l → ReportLine first second m → l ≡ m

@@ -1,6 +1,6 @@
-//! What is found of two texts.
+//! Reads two texts and compares their tables.
 ghost use Rattle.std.specs.Prelude.{◌≤◌, length, IfOk};
-ghost use Rattle.report.specs.Reports.{Tells};
+ghost use Rattle.report.specs.Reports.{ReportLine};
 ghost use Rattle.report.specs.Findings.{finding_line, Fits};
 
 use book::refusal::Refusal;
@@ -8,7 +8,7 @@ use book::verdict::Verdict;
 use field::Field;
 use shelf::directory::Directory;
 
-/// Why two texts are not compared: the first is refused, or the second, or the two together.
+/// Why two texts are not compared: the first is refused, or the second, or the two tables together.
 #[derive(Clone, Copy)]
 pub enum Rejection {
     First(Refusal),
@@ -17,16 +17,15 @@ pub enum Rejection {
 }
 
 /// Loads the first text, then the second, and compares the two tables.
-// That the memories are whole stays a clause, as for the calls of the shelf, which take slices; only here no call is refused for it.
 pub fn find<F: Field>(
     shelf: &mut [F],
     work: &mut [F],
     first: &[u8],
     second: &[u8],
 ) -> Result<Verdict, Rejection>
-    requires shelf_whole { 12544 ≤ length shelf.old }
-    requires work_whole { 8192 ≤ length work.old }
-    ensures tells { Tells F.field first.now second.now (finding_line result) }
+    requires shelf_enough { 12544 ≤ length shelf.old }
+    requires work_enough { 8192 ≤ length work.old }
+    ensures reports { ReportLine F.field first.now second.now (finding_line result) }
     ensures fits { IfOk result (λ v. Fits v) }
 {
     let mut directory = Directory::open();

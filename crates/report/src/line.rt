@@ -1,8 +1,8 @@
-//! A line of numbers, written into lent bytes.
+//! Writes a line of numbers.
 ghost use Rattle.std.specs.Prelude.{◌≡◌, ◌+◌, ◌*◌, ◌++◌, length};
 ghost use Rattle.columns.specs.Lines.{line as line_of, TenDigits};
 
-/// Writes a line: its first byte, numbers, letters as numbers, and byte 10.
+/// Writes a line: its first byte, the values, the letters as numbers, and byte 10.
 pub fn put_line(out: &mut [u8], first: u8, values: &[u64], letters: &[u8])
     requires ten_digits { TenDigits values.now }
     requires room { length out.old ≡ 2 + 11 * length values.now + 11 * length letters.now }

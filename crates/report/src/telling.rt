@@ -1,9 +1,10 @@
-//! The line that tells what was found.
+//! Writes the line that reports what was found.
 ghost use Rattle.std.specs.Prelude.{◌≤◌, ◌++◌, length, IfOk};
 ghost use Rattle.columns.specs.Lines.{line};
 ghost use Rattle.report.specs.Reports.{refused_line, Reports};
 ghost use Rattle.columns.specs.Lines.{TenDigits};
 ghost use Rattle.report.specs.Findings.{AtFront, Fits, finding_line, verdict_line};
+ghost use Rattle.report.specs.Memory.{AllZero};
 
 use crate::finding::{Rejection, find};
 use crate::line::put_line;
@@ -14,12 +15,15 @@ use field::Field;
 /// The longest line: a first byte, four numbers, 31 letters and byte 10.
 pub const LONGEST: usize = 387;
 
-// Writes a line to the front of the output: how many bytes it has. The output is the C caller's, who is told the count.
+// A number has 11 columns.
+const _: () = prove!(LONGEST == 1 + 11 * (4 + 31) + 1);
+
+// Writes a line to the front of the output, and returns how many bytes it has.
 fn put_in_front(out: &mut [u8; LONGEST], first: u8, values: &[u64], letters: &[u8]) -> usize
     requires few { length values.now ≤ 4 }
     requires ten_digits { TenDigits values.now }
     requires few_letters { length letters.now ≤ 31 }
-    ensures told { AtFront (line first (values.now ++ letters.now)) out.old result out.new }
+    ensures line_in_front { AtFront (line first (values.now ++ letters.now)) out.old result out.new }
     ensures at_most { result ≤ 387 }
 {
     let count = 2 + 11 * (values.len() + letters.len());
@@ -29,7 +33,7 @@ fn put_in_front(out: &mut [u8; LONGEST], first: u8, values: &[u64], letters: &[u
 
 // Writes the line of a refused text, or of the two together, and returns its length; `text` is 1, 2 or 0.
 fn put_refused(out: &mut [u8; LONGEST], text: u8, refusal: &Refusal) -> usize
-    ensures told { AtFront (refused_line text refusal.now) out.old result out.new }
+    ensures line_in_front { AtFront (refused_line text refusal.now) out.old result out.new }
     ensures at_most { result ≤ 387 }
 {
     let (line, column) = refusal.position();
@@ -42,13 +46,13 @@ fn put_refused(out: &mut [u8; LONGEST], text: u8, refusal: &Refusal) -> usize
     put_in_front(out, b'R', &values, b"")
 }
 
-// Writes the line of a verdict: how many bytes it has. That it fits stays a clause: the record is the book's, which knows no line.
+// Writes the line of a verdict, and returns how many bytes it has.
 fn put_verdict(out: &mut [u8; LONGEST], verdict: &Verdict) -> usize
     requires fits { Fits verdict.now }
-    ensures told { AtFront (verdict_line verdict.now.kind verdict.now) out.old result out.new }
+    ensures line_in_front { AtFront (verdict_line verdict.now.kind verdict.now) out.old result out.new }
     ensures at_most { result ≤ 387 }
 {
-    // `as`, since no `From` leads from usize to u64.
+    // `as`, since there is no `From<usize>` for u64.
     match verdict.kind {
         Kind::Alike => {
             let values = [verdict.tried as u64, verdict.kept as u64];
@@ -62,10 +66,10 @@ fn put_verdict(out: &mut [u8; LONGEST], verdict: &Verdict) -> usize
     }
 }
 
-// Writes the line that tells what was found: how many bytes it has.
+// Writes the line that reports what was found, and returns how many bytes it has.
 fn put_finding(out: &mut [u8; LONGEST], found: &Result<Verdict, Rejection>) -> usize
     requires fits { IfOk found.now (λ v. Fits v) }
-    ensures told { AtFront (finding_line found.now) out.old result out.new }
+    ensures line_in_front { AtFront (finding_line found.now) out.old result out.new }
     ensures at_most { result ≤ 387 }
 {
     match found {
@@ -76,7 +80,8 @@ fn put_finding(out: &mut [u8; LONGEST], found: &Result<Verdict, Rejection>) -> u
     }
 }
 
-/// Reports on two texts: how many bytes its line has, or 0 where the output has no room for every line.
+/// Reports on two texts with the given memory: writes the line, and returns how many bytes it has, or 0 where the output is
+/// too short for some lines.
 pub fn tell<F: Field>(
     shelf: &mut [F],
     work: &mut [F],
@@ -84,12 +89,13 @@ pub fn tell<F: Field>(
     second: &[u8],
     out: &mut [u8],
 ) -> usize
-    requires shelf_whole { 12544 ≤ length shelf.old }
-    requires work_whole { 8192 ≤ length work.old }
+    requires shelf_enough { 12544 ≤ length shelf.old }
+    requires work_enough { 8192 ≤ length work.old }
+    requires shelf_zero { AllZero F.field F.value shelf.old }
+    requires work_zero { AllZero F.field F.value work.old }
     ensures reports { Reports F.field first.now second.now out.old result out.new }
     ensures at_most { result ≤ 387 }
 {
-    // 0 and no `Option`: a C caller is told a count, and no line has 0 bytes.
     let Some(line) = out.first_chunk_mut::<LONGEST>() else {
         return 0;
     };

@@ -1,10 +1,10 @@
-//! What holds of every line that is reported, held by functions that do nothing else.
+//! What holds of every report line, held by functions that do nothing else.
 ghost use Rattle.report.specs.Reports.{OneLine, BeginsWhereAlike};
 
 use field::Field;
 use text::theorems::{one_text_one_table, one_verdict};
 
-/// Two texts have one line.
+/// Two texts have one report line.
 pub fn one_line<F: Field>()
     ensures one { OneLine F.field }
 {
@@ -12,7 +12,8 @@ pub fn one_line<F: Field>()
     one_verdict::<F>();
 }
 
-/// A line begins with Q exactly where both texts are those of tables with one letter count that weigh every word alike.
+/// A report line begins with Q exactly where both texts are those of tables with one letter count that weigh every word
+/// alike.
 pub fn q_where_alike<F: Field>()
     ensures exactly { BeginsWhereAlike F.field 81 }
 {

@@ -6,12 +6,14 @@ ghost use Rattle.std.specs.Mem.{type_size};
 ghost use Rattle.verdict.specs.Reporting.{ReportsOver};
 
 use anyhow::anyhow;
+use byte::Byte;
 use command::files::{MOST, failed, read_if_there};
 use command::offered::{Offered, OverField, with_field};
 use command::program::Program;
 use command::wish::name_or;
 use field::Field;
-use report::{LONGEST, report, report_bits, report_bytes};
+use report::{LONGEST, report_over};
+use residue::{Bit, Fermat};
 use rows::table::LARGEST;
 use std::io;
 use std::io::Write;
@@ -44,16 +46,15 @@ const VERDICT: Program<'static> = Program {
     files: 2,
 };
 
-// The line that reports on two texts, over a field that is offered: how many bytes it has.
+// Writes the line that reports on two texts, over a field that is offered, and returns how many bytes it has.
 fn report_offered(field: Offered, first: &[u8], second: &[u8], line: &mut [u8]) -> usize
     ensures reports { ReportsOver field first.now second.now line.old result line.new }
     ensures at_most_387 { result ≤ 387 }
 {
-    // Not a step over the field: each function here tells what it reports by the definition of its own field.
     match field {
-        Offered::Bits => report_bits(first, second, line),
-        Offered::Bytes => report_bytes(first, second, line),
-        Offered::Fermat => report(first, second, line),
+        Offered::Bits => report_over::<Bit>(first, second, line),
+        Offered::Bytes => report_over::<Byte>(first, second, line),
+        Offered::Fermat => report_over::<Fermat>(first, second, line),
     }
 }
 

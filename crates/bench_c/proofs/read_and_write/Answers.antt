@@ -1,5 +1,5 @@
 use Rattle.std.proofs.Common.{◌<◌, ◌≤◌, length, subst}
-use Rattle.bench_c.specs.Rewriting.{Rewrites, refused}
+use Rattle.bench_c.specs.Rewriting.{refused}
 use Rattle.bench_c.proofs.Rewritten.{short, written}
 use Rattle.bench_c.proofs.read_and_write.Goals as goal
 
