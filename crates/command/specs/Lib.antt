@@ -1,2 +1,3 @@
+pub mod Arguments
 pub mod Choices
-pub mod Wishes
+pub mod Endings

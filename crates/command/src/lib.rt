@@ -1,10 +1,13 @@
-//! What the programs share: their `main`, the words of a command line, the choice of a field, and files read up to a bound.
+//! What the programs share: the command line, the exit status, the choice of a field, files, and messages.
 #![tactic(auto)]
 
+pub mod arguments;
+pub mod error;
+pub mod field_choice;
 pub mod files;
-pub mod offered;
 pub mod program;
-pub mod wish;
+pub mod refused;
+pub mod status;
 
-/// The version that every program tells.
+/// The version that every program prints.
 pub const VERSION: &str = "Gorvaneth 1.0";

@@ -1,69 +1,73 @@
-//! What the `main` of a program is: the command line is read, its wish is done, and an error is told.
-ghost use Rattle.std.specs.Prelude.{◌≡◌, ◌≤◌, IfOk, vec_len, Option, Vec, String};
+//! The `main` of a program: reads the command line, does the work, and reports an error.
+ghost use Rattle.std.specs.Prelude.{◌≡◌, ◌≤◌, vec_len};
 ghost use Rattle.std.specs.Process.{exit_status};
-ghost use Rattle.std.specs.declared.alloc.Global.{Global};
-ghost use Rattle.command.specs.Wishes.{Does, Takes, status_of};
-ghost use Rattle.command.specs.declared.offered.Offered.{Offered};
+ghost use Rattle.command.specs.Arguments.{Does, Takes};
+ghost use Rattle.command.specs.Endings.{status_of};
+ghost use Rattle.command.specs.declared.arguments.Options.{Options};
 
 use crate::VERSION;
-use crate::offered::Offered;
-use crate::wish::{Wish, asked_for};
-use std::io;
+use crate::arguments::{Accepted, Arguments, Options, read_arguments};
+use crate::error::Error;
+use crate::status::Status;
 use std::process::ExitCode;
 
-/// A program: its name, how it is used, and how many files its command line may name.
+/// A program: its name, how it is used, and what its command line may name.
 #[derive(Clone, Copy)]
 pub struct Program<'a> {
     pub name: &'a str,
     pub usage: &'a str,
-    pub files: usize,
+    pub accepted: Accepted,
 }
 
 impl Program<'_> {
-    /// Does what a wish asks for: tells the usage or the version, or does the work, with the field and the files named.
-    pub fn fulfil<W: FnOnce(Option<Offered>, Vec<String>) -> anyhow::Result<()>>(
+    /// Does what the command line asks for: prints the usage or the version, or does the work with the options.
+    pub fn run<W: FnOnce(Options) -> Result<Status, Error>>(
         self,
         rt: &HostRuntime,
-        wish: Wish,
+        arguments: Arguments,
         work: W,
-    ) -> anyhow::Result<()>
-        requires callable { Takes (W.pre work) wish }
-        ensures done { Does (W.post work) wish result }
+    ) -> Result<Status, Error>
+        requires callable { Takes (W.pre work) arguments }
+        ensures done { Does (W.post work) arguments result }
     {
-        match wish {
-            Wish::Help => println!(rt; "{}", self.usage)?,
-            Wish::Version => println!(rt; "{}, {VERSION}", self.name)?,
-            Wish::Work { field, files } => return work(field, files),
+        match arguments {
+            Arguments::Help => println!(rt; "{}", self.usage)?,
+            Arguments::Version => println!(rt; "{}, {VERSION}", self.name)?,
+            Arguments::Run(options) => return work(options),
         }
-        Ok(())
+        Ok(Status::Success)
     }
 
-    /// The status that the program ends with: 0 where it was done, and else 1, with the error told on standard error.
-    pub fn status(self, rt: &HostRuntime, done: anyhow::Result<()>) -> io::Result<ExitCode>
-        ensures by_error { IfOk result (λ code. exit_status code ≡ status_of done) }
+    /// The exit status: that of the work, or the given one after an error, which is printed on standard error.
+    pub fn end(self, rt: &HostRuntime, done: Result<Status, Error>, failure: Status) -> ExitCode
+        ensures by_error { exit_status result ≡ status_of failure done }
     {
         match done {
-            Ok(()) => Ok(ExitCode::SUCCESS),
+            Ok(status) => status.code(),
             Err(e) => {
-                eprintln!(rt; "{}: {e}", self.name)?;
-                Ok(ExitCode::FAILURE)
+                // Where standard error cannot be written, the exit status is all that is left.
+                let _ = eprintln!(rt; "{}: {e}", self.name);
+                failure.code()
             }
         }
     }
 
-    /// Runs the program as its command line asks.
-    pub fn run<W: FnOnce(Option<Offered>, Vec<String>) -> anyhow::Result<()>>(
+    /// Runs the program as its command line asks. A wrong command line ends with status 2.
+    pub fn main<W: FnOnce(Options) -> Result<Status, Error>>(
         self,
         rt: &HostRuntime,
         work: W,
-    ) -> io::Result<ExitCode>
-        requires callable { (field : Option Offered) (files : Vec (String Global) Global) → vec_len files ≤ self.files → W.pre work field files }
-        ensures status { IfOk result (λ code. exit_status code ≤ 1) }
+    ) -> ExitCode
+        requires callable { (options : Options) → vec_len options.files ≤ self.accepted.files → W.pre work options }
+        ensures at_most_2 { exit_status result ≤ 2 }
     {
-        let done = match asked_for(rt, self.files) {
-            Ok(wish) => self.fulfil(rt, wish, work),
-            Err(e) => Err(e),
-        };
-        self.status(rt, done)
+        match read_arguments(rt, self.accepted) {
+            Ok(arguments) => {
+                let failure = arguments.failure();
+                let done = self.run(rt, arguments, work);
+                self.end(rt, done, failure)
+            }
+            Err(e) => self.end(rt, Err(e), Status::Trouble),
+        }
     }
 }

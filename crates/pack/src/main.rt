@@ -1,57 +1,62 @@
 //! Packs a table: reads its text, reduces it, compares the two, and writes the text of the reduced form.
 #![tactic(auto)]
 
-ghost use Rattle.std.specs.Prelude.{Some, codes};
-ghost use Rattle.anyhow.specs.Error.{HasMessage};
-
-use anyhow::anyhow;
 use book::refusal::Refusal;
 use book::verdict::Kind;
-use command::files::{MOST, failed, read_file};
-use command::offered::{Offered, OverField, with_field};
+use command::arguments::{Accepted, Options, name_or};
+use command::error::Error;
+use command::field_choice::{FieldChoice, OverField, with_field};
+use command::files::{TEXT_LIMIT, read_error, read_input, shown, write_error, write_file};
 use command::program::Program;
-use command::wish::name_or;
+use command::refused::Refused;
+use command::status::Status;
 use field::Field;
+use packing::error::PackError;
 use packing::pack;
 use packing::packed::Packed;
 use shelf::memory::{SHELF, WORK};
-use std::io::Write;
+use std::fmt;
 use std::process::ExitCode;
-use std::{fmt, fs, io};
 use writer::LONGEST;
 
 const HELP: &str = "usage: pack [--field Q] [FILE [OUT]]
 
-Reads the text of a table from FILE (without it, from the file table of the
-current folder), and writes the text of the smallest table that weighs every
-word alike to OUT (without it, to standard output). What was done is told on
-standard error.
+Reads the text of a table from FILE (default: the file table), and writes the
+text of the smallest table that gives every word the same weight to OUT
+(default: standard output). - stands for standard input or output. Prints a
+summary on standard error.
 
-  --field Q   the field: 2, 256 or 65537 elements. Without it, the one that the
-              text's first line names, if it is one of these, and else 65537
-  --help      tells this
-  --version   tells the version
+  --field Q      the field: 2, 256 or 65537 elements (default: the one that the
+                 first line of the text names)
+  -h, --help     prints this
+  -V, --version  prints the version
 
-The status is 0 where the table was packed, and 1 where the text is refused, a
-file cannot be read or written, or the command line is wrong.";
+OUT may be FILE. It is replaced once the new text is written, and stays as it is
+after an error.
+
+Exit status: 0 if the table was packed, 1 if the text is refused or a file
+cannot be read or written, 2 if the command line is wrong.";
 
 const PACK: Program<'static> = Program {
     name: "pack",
     usage: HELP,
-    files: 2,
+    accepted: Accepted {
+        files: 2,
+        compares: false,
+    },
 };
 
 // What was done with the text of a file, over a field of so many elements.
 #[derive(Clone, Copy)]
-struct Told<'a> {
+struct Summary<'a> {
     name: &'a str,
     order: u64,
     done: Packed,
 }
 
-impl fmt::Display for Told<'_> {
+impl fmt::Display for Summary<'_> {
     fn fmt<W: fmt::Write>(&self, f: &mut fmt::Formatter<W>) -> fmt::Result {
-        let Told { name, order, done } = self;
+        let Summary { name, order, done } = self;
         let (before, after, bytes) = (done.before, done.after, done.bytes);
         writeln!(
             f,
@@ -62,93 +67,85 @@ impl fmt::Display for Told<'_> {
     }
 }
 
-// Why a text is refused, and where, if the text itself is at fault.
+// A text that is to be packed over the field that is chosen; `named` is nothing where neither the command line nor the text
+// names a field.
 #[derive(Clone, Copy)]
-struct Why(Refusal);
-
-impl fmt::Display for Why {
-    fn fmt<W: fmt::Write>(&self, f: &mut fmt::Formatter<W>) -> fmt::Result {
-        if let Refusal::Unreadable(fault) = self.0 {
-            let (line, column) = fault.position();
-            write!(f, "line {line}, column {column}: ")?;
-        }
-        write!(f, "{}", self.0)
-    }
-}
-
-// Tells why a text is refused.
-fn refused(rt: &HostRuntime, name: &str, refusal: Refusal) -> anyhow::Error
-    ensures meant { HasMessage (Some (codes "the text is refused")) result }
-{
-    failed(rt, name, Why(refusal), "the text is refused")
-}
-
-// Writes the packed text to the second file, or else to standard output.
-fn write(rt: &HostRuntime, files: &[String], packed: &[u8]) -> anyhow::Result<()> {
-    match files.get(1) {
-        Some(out) => fs::write(rt, out.as_str(), packed).map_err(|e| failed(
-            rt,
-            out.as_str(),
-            e,
-            "the packed text cannot be written",
-        )),
-        None => Ok(rt.stdout().write_all(packed)?),
-    }
-}
-
-// A text that is to be packed over the field that is chosen.
 struct Packing<'a> {
     rt: &'a HostRuntime,
+    named: Option<FieldChoice>,
     text: &'a [u8],
-    files: &'a [String],
+    name: &'a str,
+    out: &'a str,
+}
+
+impl Packing<'_> {
+    // Why the text is not packed.
+    fn refused(&self, error: PackError) -> Error {
+        let heap = self.rt.alloc();
+        match error {
+            PackError::Refused(Refusal::Unreadable(fault)) => Error::new(
+                heap,
+                Refused {
+                    name: self.name,
+                    text: self.text,
+                    refusal: fault.refusal(),
+                    position: fault.position(),
+                    field: self.named,
+                },
+            ),
+            _ => Error::new(heap, error),
+        }
+    }
 }
 
 impl OverField for Packing<'_> {
-    type Output = anyhow::Result<()>;
+    type Output = Result<Status, Error>;
 
-    // What is written and told is no part of the result.
+    // What is written is no part of the result.
     ghost gives = { λ q packing done. Unit {0} };
 
     // Packs the text, and writes what came of it.
-    fn over<F: Field>(self) -> anyhow::Result<()> {
-        let Packing { rt, text, files } = self;
-        let name = name_or(files, 0, "table");
+    fn over<F: Field>(self) -> Result<Status, Error> {
+        let rt = self.rt;
         let mut shelf = [F::zero(); SHELF];
         let mut work = [F::zero(); WORK];
         let mut output = [0u8; LONGEST];
-        let done = pack(&mut shelf, &mut work, &mut output, text).map_err(|e| refused(
-            rt,
-            name,
-            e.refusal(),
-        ))?;
+        let done = pack(&mut shelf, &mut work, &mut output, self.text).map_err(
+            |error| self.refused(error),
+        )?;
         // By the contract of `pack` neither can be; the text is not written where one is.
         if done.verdict.kind != Kind::Alike || done.bytes > output.len() {
-            return Err(anyhow!("the packed table weighs some word differently"));
+            return Err(Error::new(rt.alloc(), "the packed table weighs some word differently"));
         }
-        write(rt, files, &output[..done.bytes])?;
+        write_file(rt, self.out, &output[..done.bytes]).map_err(|e| write_error(
+            rt.alloc(),
+            self.out,
+            e,
+        ))?;
+        let name = shown(self.name);
         let order = F::order();
-        eprintln!(rt; "{}", Told { name, order, done })?;
-        Ok(())
+        eprintln!(rt; "{}", Summary { name, order, done })?;
+        Ok(Status::Success)
     }
 }
 
 // Reads the text, and packs it over the field that is named, in the command line or else in the text.
-fn work(rt: &HostRuntime, field: Option<Offered>, files: &[String]) -> anyhow::Result<()> {
+fn work(rt: &HostRuntime, options: Options) -> Result<Status, Error> {
+    let files = options.files.as_slice();
     let name = name_or(files, 0, "table");
-    let text = read_file(rt, name, MOST).map_err(|e| failed(
-        rt,
-        name,
-        e,
-        "the file cannot be read",
-    ))?;
+    let text = read_input(rt, name, TEXT_LIMIT).map_err(|e| read_error(rt.alloc(), name, e))?;
     let text = text.as_slice();
-    let field = field.or(Offered::named_in(text));
-    with_field(
-        field.unwrap_or(Offered::Fermat),
-        Packing { rt, text, files },
-    )
+    let named = options.field.or(FieldChoice::named_in(text));
+    let packing = Packing {
+        rt,
+        named,
+        text,
+        name,
+        out: name_or(files, 1, "-"),
+    };
+    with_field(named.unwrap_or(FieldChoice::Fermat), packing)
 }
 
-fn main(rt: HostRuntime) -> io::Result<ExitCode> {
-    PACK.run(&rt, |field, files| work(&rt, field, files.as_slice()))
+fn main(rt: HostRuntime) -> ExitCode {
+    PACK.main(&rt, |options| work(&rt, options))
 }

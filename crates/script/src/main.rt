@@ -1,38 +1,199 @@
-//! Performs the script on standard input: calls on a shelf, a line each, whose outcomes are printed. Where the script has
-//! mistakes, they are told on standard error, and nothing is performed.
+//! Performs a script, calls on a shelf with a line each, and prints their outcomes. Where the script has mistakes, they are
+//! printed on standard error, and nothing is performed.
 #![tactic(auto)]
 
-use scripting::performing::{Failure, run, tell};
-use scripting::reading::{Line, read};
-use std::fs;
-use std::io::{Read, Write};
+use command::arguments::{Accepted, Options, name_or};
+use command::error::Error;
+use command::field_choice::FieldChoice;
+use command::files::{TEXT_LIMIT, read_error, read_file, read_input, shown, write_error};
+use command::program::Program;
+use command::refused::line_at;
+use command::status::Status;
+use scripting::mistake::{Mistake, Reason};
+use scripting::performing::{Failure, run};
+use scripting::reading::{Line, Script, read};
+use scripting::verb::Verb;
+use scripting::words::next_word;
+use std::alloc::Global;
+use std::io::Write;
 use std::process::ExitCode;
+use std::{fmt, io};
 
-// Reads the file that a line loads; where it cannot be read, the line is left to be told as a mistake.
-fn read_file(rt: &HostRuntime, line: &mut Line) {
-    let found = line.file().and_then(|name| fs::read(rt, name).ok());
-    if let Some(text) = found {
-        line.give(text);
+const HELP: &str = "usage: script [--field Q] [FILE]
+
+Performs the calls of a script, one to a line, on a shelf of tables, and prints
+the outcome of each. Reads the script from FILE (default: standard input, as
+with -).
+
+  --field Q      the field to begin with: 2, 256 or 65537 elements (default:
+                 65537)
+  -h, --help     prints this
+  -V, --version  prints the version
+
+Where lines of the script are wrong, they are printed on standard error, and
+nothing is performed. docs/script.md describes the language.
+
+Exit status: 0 if the script was performed, 1 if a line of it is wrong or a file
+cannot be read, 2 if the command line is wrong.";
+
+const SCRIPT: Program<'static> = Program {
+    name: "script",
+    usage: HELP,
+    accepted: Accepted {
+        files: 1,
+        compares: false,
+    },
+};
+
+// How many bytes of a script are read at most.
+const SCRIPT_LIMIT: usize = 1 << 30;
+
+// A file that a line loads and that cannot be read.
+#[derive(Drop)]
+struct Unreadable {
+    line: usize,
+    name: String,
+    wrong: io::Error,
+}
+
+// Reads the file that a line loads. One that cannot be read leaves the line as it is, which makes it a mistake.
+fn load_file(
+    rt: &HostRuntime,
+    line: &mut Line,
+    unreadable: &mut Vec<Unreadable>,
+) -> Result<(), Error> {
+    let Some(name) = line.file() else {
+        return Ok(());
+    };
+    match read_file(rt, name, TEXT_LIMIT) {
+        Ok(text) => line.give(text),
+        Err(wrong) => {
+            let name = String::from_str(rt.alloc(), name)?;
+            let line = line.number;
+            unreadable.push(Unreadable { line, name, wrong })?;
+        }
+    }
+    Ok(())
+}
+
+// How a call is written.
+fn usage(verb: Verb) -> &'static str {
+    match verb {
+        Verb::Field => "field Q",
+        Verb::Open => "open [M]",
+        Verb::Lend => "lend W B",
+        Verb::Text => "text NAME N",
+        Verb::Load => "load NAME P",
+        Verb::Sum => "sum P Q R",
+        Verb::Scale => "scale P C R",
+        Verb::Multiply => "multiply P Q R",
+        Verb::After => "after P A R",
+        Verb::Turn => "turn P R",
+        Verb::Reduce => "reduce P R",
+        Verb::Weigh => "weigh P [A B ..]",
+        Verb::Compare => "compare P Q",
+        Verb::Write => "write P",
+        Verb::Clear => "clear P",
     }
 }
 
-fn main(rt: HostRuntime) -> anyhow::Result<ExitCode> {
-    let mut bytes = Vec::new(rt.alloc());
-    rt.stdin().read_to_end(&mut bytes)?;
-    let mut script = read(rt.alloc(), bytes.as_slice())?;
-    for line in script.lines.iter_mut() {
-        read_file(&rt, line);
+// Bytes as text; other bytes than those of ASCII as question marks.
+#[derive(Clone, Copy)]
+struct Text<'a>(&'a [u8]);
+
+impl fmt::Display for Text<'_> {
+    fn fmt<W: fmt::Write>(&self, f: &mut fmt::Formatter<W>) -> fmt::Result {
+        for b in self.0 {
+            let shown = if b.is_ascii_graphic() { *b } else { b'?' };
+            write!(f, "{}", char::from(shown))?;
+        }
+        Ok(())
     }
-    match run(rt.alloc(), &script) {
+}
+
+// A mistake with the file and the line of the script that it is in, and the file that the line loads, if that cannot be read.
+#[derive(Clone, Copy)]
+struct Shown<'a> {
+    name: &'a str,
+    script: &'a [u8],
+    unreadable: &'a [Unreadable],
+    mistake: Mistake,
+}
+
+impl Shown<'_> {
+    // What the line has to do with the reason.
+    fn write_detail<W: fmt::Write>(&self, f: &mut fmt::Formatter<W>) -> fmt::Result {
+        let Mistake { line, reason } = self.mistake;
+        let Some((first, rest)) = next_word(line_at(self.script, line)) else {
+            return Ok(());
+        };
+        match reason {
+            Reason::NoCall => write!(f, " \"{}\"", Text(first)),
+            Reason::FieldNotOffered => {
+                let (word, _) = next_word(rest).unwrap_or((&[], &[]));
+                write!(f, " \"{}\", expected 2, 256 or 65537", Text(word))
+            }
+            Reason::WordMissing | Reason::WordExtra | Reason::NoNumber | Reason::NumberTooLarge => {
+                match Verb::try_from(first) {
+                    Ok(verb) => write!(f, ": {}", usage(verb)),
+                    Err(_) => Ok(()),
+                }
+            }
+            _ => Ok(()),
+        }
+    }
+}
+
+impl fmt::Display for Shown<'_> {
+    fn fmt<W: fmt::Write>(&self, f: &mut fmt::Formatter<W>) -> fmt::Result {
+        let Mistake { line, reason } = self.mistake;
+        write!(f, "{}:{line}: ", self.name)?;
+        if let Some(found) = self.unreadable.iter().find(|found| found.line == line) {
+            return write!(f, "cannot read {}: {}", found.name, found.wrong);
+        }
+        write!(f, "{reason}")?;
+        self.write_detail(f)
+    }
+}
+
+// Reads a script and the files that it loads, and performs it over the field; or prints its mistakes.
+fn work(rt: &HostRuntime, options: Options) -> Result<Status, Error> {
+    let heap = rt.alloc();
+    let name = name_or(options.files.as_slice(), 0, "-");
+    let bytes = read_input(rt, name, SCRIPT_LIMIT).map_err(|e| read_error(heap, name, e))?;
+    if bytes.len() == SCRIPT_LIMIT {
+        return Err(Error::new(
+            heap,
+            format_args!("{}: the script is too long", shown(name)),
+        ));
+    }
+    let mut script = read(heap, bytes.as_slice())?;
+    let mut unreadable = Vec::new(heap);
+    for line in script.lines.iter_mut() {
+        load_file(rt, line, &mut unreadable)?;
+    }
+    match run(heap, options.field.unwrap_or(FieldChoice::Fermat), &script) {
         Ok(shown) => {
-            rt.stdout().write_all(shown.as_slice())?;
-            Ok(ExitCode::SUCCESS)
+            let printed = rt.stdout().write_all(shown.as_slice());
+            printed.map_err(|e| write_error(heap, "-", e))?;
+            Ok(Status::Success)
         }
         Err(Failure::Mistaken(mistakes)) => {
-            let told = tell(rt.alloc(), mistakes.as_slice())?;
-            rt.stderr().write_all(told.as_slice())?;
-            Ok(ExitCode::FAILURE)
+            for mistake in mistakes.iter() {
+                let shown = Shown {
+                    name: shown(name),
+                    script: bytes.as_slice(),
+                    unreadable: unreadable.as_slice(),
+                    mistake: *mistake,
+                };
+                eprintln!(rt; "{}: {shown}", SCRIPT.name)?;
+            }
+            Ok(Status::Failure)
         }
-        Err(e) => Err(anyhow::Error::from(e)),
+        Err(Failure::NoMemory(e)) => Err(Error::Memory(e)),
     }
+}
+
+fn main(rt: HostRuntime) -> ExitCode {
+    SCRIPT.main(&rt, |options| work(&rt, options))
 }

@@ -3,7 +3,7 @@ ghost use Rattle.std.specs.Prelude.{◌≡◌, Some};
 ghost use Rattle.scripting.specs.Telling.{mistake_text, reason_text};
 ghost use Rattle.scripting.specs.declared.mistake.Reason.TheVariants.{NumberTooLarge, FieldNotOffered, NoMemory};
 
-use command::offered::NotOffered;
+use command::field_choice::NotOffered;
 use std::alloc::{AllocError, AllocFailed};
 use std::fmt;
 use std::num::TryFromIntError;
@@ -61,16 +61,16 @@ impl Reason {
         ensures in_words { result.now ≡ reason_text self }
     {
         match self {
-            Reason::NoCall => "the first word is no call",
-            Reason::WordMissing => "a word is missing",
-            Reason::WordExtra => "a word is too many",
-            Reason::NoNumber => "a number is due",
+            Reason::NoCall => "unknown command",
+            Reason::WordMissing => "an argument is missing",
+            Reason::WordExtra => "too many arguments",
+            Reason::NoNumber => "expected a number",
             Reason::NumberTooLarge => "a number is too large",
-            Reason::FieldNotOffered => "the field is not offered",
-            Reason::TextCutShort => "the text is cut short",
-            Reason::TextNotEnded => "a newline is due after the text",
+            Reason::FieldNotOffered => "unknown field",
+            Reason::TextCutShort => "the script ends inside the text",
+            Reason::TextNotEnded => "expected a newline after the text",
             Reason::FileUnreadable => "the file cannot be read",
-            Reason::NoMemory => "there is no memory for it",
+            Reason::NoMemory => "out of memory",
         }
     }
 }

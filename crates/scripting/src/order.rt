@@ -12,7 +12,7 @@ use crate::mistake::Reason;
 use crate::verb::Verb;
 use crate::words::next_word;
 use book::call::Call;
-use command::offered::Offered;
+use command::field_choice::FieldChoice;
 use shelf::memory::SHELF;
 use std::alloc::Global;
 
@@ -26,7 +26,7 @@ pub struct Given {
 /// What is performed. A call owns its text or word.
 #[derive(Drop)]
 pub enum Order {
-    Field(Offered),
+    Field(FieldChoice),
     Open { elements: usize },
     Lend(Given),
     Call(Call<Vec<u8>>),
@@ -100,11 +100,11 @@ fn elements(line: &[u8]) -> Result<usize, Reason>
 }
 
 // The field of the order that the line is.
-fn field(line: &[u8]) -> Result<Offered, Reason>
+fn field(line: &[u8]) -> Result<FieldChoice, Reason>
     ensures read { IfOk result (λ o. Numbers line.now (q_of o ∷ [])) }
 {
     let [q] = numbers::<1>(line)?;
-    Ok(Offered::try_from(u64::try_from(q)?)?)
+    Ok(FieldChoice::try_from(u64::try_from(q)?)?)
 }
 
 // The call of weigh, with the place and the letters that the line is.

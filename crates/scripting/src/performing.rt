@@ -1,12 +1,11 @@
 //! Performs a script, a request at a time, since what write wrote is shown before the next call.
-ghost use Rattle.std.specs.Prelude.{◌≡◌, ◌*◌, ◌^◌, ◌<◌, flat_map, length, IfOk};
+ghost use Rattle.std.specs.Prelude.{◌≡◌, ◌*◌, ◌^◌, ◌<◌, length};
 ghost use Rattle.std.specs.Mem.{type_size};
 ghost use Rattle.book.specs.Verdicts.{unwritten};
 ghost use Rattle.shelf.specs.Views.{state, shelf_of};
 ghost use Rattle.scripting.specs.Making.{Makes};
 ghost use Rattle.scripting.specs.Mistakes.{mistakes_of};
 ghost use Rattle.scripting.specs.Judging.{Judged, JudgedAsRead};
-ghost use Rattle.scripting.specs.Telling.{told_line};
 ghost use Rattle.scripting.specs.declared.performing.Failure.TheVariants.{NoMemory};
 
 use crate::mistake::Mistake;
@@ -18,7 +17,7 @@ use book::call::{Call, Request};
 use book::outcome::{Answer, Outcome};
 use book::refusal::Refusal;
 use book::verdict::Verdict;
-use command::offered::{Offered, OverField, with_field};
+use command::field_choice::{FieldChoice, OverField, with_field};
 use field::Field;
 use shelf::directory::Directory;
 use shelf::memory::{SHELF, WORK};
@@ -138,9 +137,13 @@ impl OverField for Section<'_> {
     }
 }
 
-/// Performs a script, and gives what it shows.
+/// Performs a script that begins with a shelf over a field, and returns what it shows.
 // How outcomes are worded is not stated; stored scripts test it.
-pub fn perform(heap: Global, script: &Script) -> Result<Vec<u8>, AllocError> {
+pub fn perform(
+    heap: Global,
+    field: FieldChoice,
+    script: &Script,
+) -> Result<Vec<u8>, AllocError> {
     let lines = script.lines.as_slice();
     let given = Given {
         work: WORK,
@@ -152,7 +155,7 @@ pub fn perform(heap: Global, script: &Script) -> Result<Vec<u8>, AllocError> {
         session: &mut session,
         lines,
     };
-    with_field(Offered::Fermat, begun)?;
+    with_field(field, begun)?;
     for (i, line) in lines.iter().enumerate() {
         if let Entry::Order(Order::Field(field)) = &line.entry {
             let section = Section {
@@ -163,18 +166,6 @@ pub fn perform(heap: Global, script: &Script) -> Result<Vec<u8>, AllocError> {
         }
     }
     Ok(session.shown)
-}
-
-/// The lines that tell mistakes.
-pub fn tell(heap: Global, mistakes: &[Mistake]) -> Result<Vec<u8>, AllocError>
-    ensures told { IfOk result (λ v. v.items ≡ flat_map told_line mistakes.now) }
-{
-    let mut told = Vec::new(heap);
-    for mistake in mistakes {
-        let line = format!(in heap; "script: {mistake}\n")?;
-        told.extend_from_slice(line.as_bytes())?;
-    }
-    Ok(told)
 }
 
 /// Why a script is not performed: it has mistakes, or there is no memory for what it shows.
@@ -203,23 +194,23 @@ impl fmt::Display for Failure {
 
 impl Error for Failure {}
 
-/// Performs a script unless it has a mistake, and gives what its calls show.
-pub fn run(heap: Global, script: &Script) -> Result<Vec<u8>, Failure>
+/// Performs a script unless it has a mistake, and returns what its calls show. It begins with a shelf over the field.
+pub fn run(heap: Global, field: FieldChoice, script: &Script) -> Result<Vec<u8>, Failure>
     ensures judged { Judged result (mistakes_of script.now.lines.items) }
 {
     let mistakes = script.mistakes(heap)?;
     if mistakes.is_empty() {
-        Ok(perform(heap, script)?)
+        Ok(perform(heap, field, script)?)
     } else {
         Err(Failure::Mistaken(mistakes))
     }
 }
 
-/// Reads and performs a script that names no file.
+/// Reads and performs a script that names no file, and begins with a shelf over GF(65537).
 // As for `perform`: how outcomes are worded is tested.
 pub fn run_script(heap: Global, script: &[u8]) -> Result<Vec<u8>, Failure>
     ensures judged { JudgedAsRead script.now result }
 {
     let script = read(heap, script)?;
-    run(heap, &script)
+    run(heap, FieldChoice::Fermat, &script)
 }

@@ -1,44 +1,51 @@
-//! Tests of the mistakes of scripts: each line that draws one is told by its number, with the reason.
+//! Tests of the mistakes of scripts: each is reported by its line and its reason.
 #![tactic(auto)]
 
 #[cfg(test)]
 mod tests {
-    use scripting::performing::{Failure, run_script, tell};
+    use scripting::performing::{Failure, run_script};
     use std::alloc::Global;
 
-    // What is told of a script; nothing where it is performed.
-    fn told(heap: Global, script: &str) -> Result<Vec<u8>, Failure> {
+    // The mistakes of a script, a line each; nothing where it is performed.
+    fn mistakes(heap: Global, script: &str) -> Result<String, Failure> {
+        let mut text = String::new(heap);
         match run_script(heap, script.as_bytes()) {
-            Ok(_) => Ok(Vec::new(heap)),
-            Err(Failure::Mistaken(mistakes)) => Ok(tell(heap, mistakes.as_slice())?),
-            Err(e) => Err(e),
+            Ok(_) => {}
+            Err(Failure::Mistaken(mistakes)) => {
+                for mistake in mistakes.iter() {
+                    let line = format!(in heap; "{mistake}\n")?;
+                    text.push_str(line.as_str())?;
+                }
+            }
+            Err(e) => return Err(e),
         }
+        Ok(text)
     }
 
     // One line for each reason but the lack of memory, which no line draws.
     const LINES: [(&str, &str); 14] = [
-        ("jump 1", "the first word is no call"),
-        ("LOAD a 1", "the first word is no call"),
-        ("sum 1 2", "a word is missing"),
-        ("load a", "a word is missing"),
-        ("clear 1 2", "a word is too many"),
-        ("field 2 256", "a word is too many"),
-        ("clear x", "a number is due"),
-        ("weigh 1 -1", "a number is due"),
+        ("jump 1", "unknown command"),
+        ("LOAD a 1", "unknown command"),
+        ("sum 1 2", "an argument is missing"),
+        ("load a", "an argument is missing"),
+        ("clear 1 2", "too many arguments"),
+        ("field 2 256", "too many arguments"),
+        ("clear x", "expected a number"),
+        ("weigh 1 -1", "expected a number"),
         ("clear 18446744073709551616", "a number is too large"),
         ("after 1 256 2", "a number is too large"),
         ("open 12545", "a number is too large"),
-        ("field 3", "the field is not offered"),
-        ("text a 9", "the text is cut short"),
+        ("field 3", "unknown field"),
+        ("text a 9", "the script ends inside the text"),
         ("load missing 1", "the file cannot be read"),
     ];
 
     #[test]
-    fn tells_each_reason(rt: HostRuntime) -> Result<(), Failure> {
+    fn reports_each_reason(rt: HostRuntime) -> Result<(), Failure> {
         let heap = rt.alloc();
         for (line, reason) in LINES {
-            let want = format!(in heap; "script: line 1: {reason}\n")?;
-            assert_eq!(rt; told(heap, line)?.as_slice(), want.as_bytes(), "at {line}");
+            let want = format!(in heap; "line 1: {reason}\n")?;
+            assert_eq!(rt; mistakes(heap, line)?.as_str(), want.as_str(), "at {line}");
         }
         Ok(())
     }
@@ -48,10 +55,10 @@ mod tests {
         let heap = rt.alloc();
         for (line, reason) in LINES {
             let script = format!(in heap; "# a text of two lines\n\ntext b 3\nc\nd\n{line}")?;
-            let want = format!(in heap; "script: line 6: {reason}\n")?;
+            let want = format!(in heap; "line 6: {reason}\n")?;
             assert_eq!(rt;
-                told(heap, script.as_str())?.as_slice(),
-                want.as_bytes(),
+                mistakes(heap, script.as_str())?.as_str(),
+                want.as_str(),
                 "at {line}"
             );
         }
@@ -60,10 +67,10 @@ mod tests {
 
     #[test]
     fn wants_a_newline_after_a_text(rt: HostRuntime) -> Result<(), Failure> {
-        let told = told(rt.alloc(), "clear 1\ntext a 1\nbc\njump\n")?;
+        let found = mistakes(rt.alloc(), "clear 1\ntext a 1\nbc\njump\n")?;
         let want =
-            b"script: line 2: a newline is due after the text\nscript: line 4: the first word is no call\n";
-        assert_eq!(rt; told.as_slice(), want.as_slice());
+            "line 2: expected a newline after the text\nline 4: unknown command\n";
+        assert_eq!(rt; found.as_str(), want);
         Ok(())
     }
 

@@ -1,28 +1,64 @@
-//! A tour of the library over GF(65537): reads the text of the Fibonacci table, multiplies the table by itself, packs the
-//! product, compares, and prints what it found and the packed table's text.
+//! A tour of the library: multiplies a table by itself, packs the product, compares, and prints what it found and the packed
+//! table's text.
 #![tactic(auto)]
 
-use anyhow::anyhow;
+ghost use Rattle.std.specs.Prelude.{◌*◌, ◌^◌, ◌<◌};
+ghost use Rattle.std.specs.Mem.{type_size};
+
+use command::arguments::{Accepted, Options};
+use command::error::Error;
+use command::field_choice::{FieldChoice, OverField, with_field};
+use command::files::{TEXT_LIMIT, read_error, read_input, write_error};
+use command::program::Program;
+use command::refused::Refused;
+use command::status::Status;
+use faults::LoadFault;
 use field::Field;
 use operations::multiplication::multiply;
 use reduction::reduce;
-use residue::Fermat;
 use rows::table::{LARGEST, Shape, TableRef};
 use search::compare::{Comparison, compare};
 use std::fmt;
 use std::io::Write;
+use std::process::ExitCode;
 use text::table::read_table;
 use walk::pairs::Pair;
 use writer::{LONGEST, write_table};
 
-// How many elements of work memory comparing and reducing ask for. The shelf's number, which is that of a crate above these.
+const HELP: &str = "usage: tour [--field Q] [FILE]
+
+Shows the parts of the library at work: reads the text of a table from FILE
+(default: the table of the Fibonacci numbers), multiplies the table by itself,
+packs the product, compares the two, compares the table with its square, and
+prints what it found and the text of the packed product. - stands for standard
+input.
+
+  --field Q      the field: 2, 256 or 65537 elements (default: the one that the
+                 first line of the text names)
+  -h, --help     prints this
+  -V, --version  prints the version
+
+Exit status: 0 after the tour, 1 if the text is refused or cannot be read, or if
+the product has over 16 states, 2 if the command line is wrong.";
+
+const TOUR: Program<'static> = Program {
+    name: "tour",
+    usage: HELP,
+    accepted: Accepted {
+        files: 1,
+        compares: false,
+    },
+};
+
+// How many elements of work memory comparing and reducing ask for: the shelf's number, which is that of a crate above these.
 const WORK: usize = 8192;
 
-// Start (1, 0), matrix rows (0, 1) and (1, 1), end (0, 1): the word of m letters weighs the m-th Fibonacci number.
-const FIBONACCI: &[u8] =
-    b"T          2          1      65537\nS          1          0\nM          1          1          0          1\nM          1          2          1          1\nE          0          1\nZ\n";
+// The text after the number of the field. Start (1, 0), matrix rows (0, 1) and (1, 1), end (0, 1): the word of m letters
+// weighs the m-th Fibonacci number.
+const FIBONACCI: &str =
+    "S          1          0\nM          1          1          0          1\nM          1          2          1          1\nE          0          1\nZ\n";
 
-// What a comparison found, for a person.
+// What a comparison found.
 #[derive(Clone, Copy)]
 struct Found(Comparison);
 
@@ -43,37 +79,85 @@ impl fmt::Display for Found {
                     "the first word that differs has {} letters, ",
                     word.length
                 )?;
-                write!(f, "weighs {left} and {right}, and is the {tried}th tried")
+                write!(
+                    f,
+                    "weighs {left} and {right}, and is number {tried} of those tried"
+                )
             }
         }
     }
 }
 
-// Writes the text of a table.
-fn print_table(rt: &HostRuntime, table: TableRef<'_, Fermat>) -> anyhow::Result<()> {
+// Prints the text of a table.
+fn print_table<F: Field>(rt: &HostRuntime, table: TableRef<'_, F>) -> Result<(), Error> {
     let mut output = [0u8; LONGEST];
     let count = write_table(table, &mut output);
-    rt.stdout().write_all(&output[0..count])?;
-    Ok(())
+    let printed = rt.stdout().write_all(&output[0..count]);
+    printed.map_err(|e| write_error(rt.alloc(), "-", e))
 }
 
-fn main(rt: HostRuntime) -> anyhow::Result<()> {
-    let mut memory = [Fermat::zero(); LARGEST];
-    let mut squared = [Fermat::zero(); LARGEST];
-    let mut work = [Fermat::zero(); WORK];
-    let Ok(shape) = read_table(FIBONACCI, &mut memory) else {
-        return Err(anyhow!("the text is refused"));
-    };
-    if shape.states > 4 {
-        return Err(anyhow!("the square has too many states"));
+// The table of a text, to be shown over the field that is chosen.
+#[derive(Clone, Copy)]
+struct Touring<'a> {
+    rt: &'a HostRuntime,
+    named: Option<FieldChoice>,
+    text: &'a [u8],
+    name: &'a str,
+}
+
+impl Touring<'_> {
+    // Why the text is refused.
+    fn refused(&self, fault: LoadFault) -> Error {
+        let at = fault.position();
+        Error::new(
+            self.rt.alloc(),
+            Refused {
+                name: self.name,
+                text: self.text,
+                refusal: fault.refusal(),
+                position: (at.line, at.column),
+                field: self.named,
+            },
+        )
     }
-    let table = TableRef::new(&memory, shape);
+}
+
+impl OverField for Touring<'_> {
+    type Output = Result<Status, Error>;
+
+    // What is printed is no part of the result.
+    ghost gives = { λ q touring done. Unit {0} };
+
+    fn over<F: Field>(self) -> Result<Status, Error> {
+        let mut memory = [F::zero(); LARGEST];
+        let shape = read_table(self.text, &mut memory).map_err(|fault| self.refused(fault))?;
+        show(self.rt, TableRef::new(&memory, shape))?;
+        Ok(Status::Success)
+    }
+}
+
+// Squares a table, packs the square, and compares.
+fn show<F: Field>(rt: &HostRuntime, table: TableRef<'_, F>) -> Result<(), Error>
+    requires elements_fit { 12544 * type_size F.row < 2 ^ 63 }
+{
+    let shape = table.shape();
+    if shape.states > 4 {
+        return Err(Error::new(
+            rt.alloc(),
+            format_args!(
+                "the table has {} states, and its square over 16",
+                shape.states
+            ),
+        ));
+    }
+    let mut squared = [F::zero(); LARGEST];
+    let mut work = [F::zero(); WORK];
     let square_shape = Shape::new(shape.states * shape.states, shape.letters);
     multiply(table, table, &mut squared[0..square_shape.size()]);
     let square = TableRef::new(&squared, square_shape);
     let states = reduce(&mut work, square);
     let packed_shape = Shape::new(states, shape.letters);
-    let mut packed = [Fermat::zero(); LARGEST];
+    let mut packed = [F::zero(); LARGEST];
     packed.copy_from_slice(&work[0..LARGEST]);
     let packed = TableRef::new(&packed, packed_shape);
     println!(rt;
@@ -90,5 +174,43 @@ fn main(rt: HostRuntime) -> anyhow::Result<()> {
         right: square,
     };
     println!(rt; "{}", Found(compare(&mut work, other)))?;
-    print_table(&rt, packed)
+    print_table(rt, packed)
+}
+
+// Reads the text, and shows its table over the field that is named, in the command line or else in the text.
+fn work(rt: &HostRuntime, options: Options) -> Result<Status, Error> {
+    let heap = rt.alloc();
+    match options.files.first() {
+        Some(name) => {
+            let name = name.as_str();
+            let text = read_input(rt, name, TEXT_LIMIT).map_err(|e| read_error(heap, name, e))?;
+            let text = text.as_slice();
+            let named = options.field.or(FieldChoice::named_in(text));
+            let touring = Touring {
+                rt,
+                named,
+                text,
+                name,
+            };
+            with_field(named.unwrap_or(FieldChoice::Fermat), touring)
+        }
+        None => {
+            let field = options.field.unwrap_or(FieldChoice::Fermat);
+            let text = format!(in heap;
+                "T          2          1{:>11}\n{FIBONACCI}",
+                field.order()
+            )?;
+            let touring = Touring {
+                rt,
+                named: Some(field),
+                text: text.as_bytes(),
+                name: "the table of the Fibonacci numbers",
+            };
+            with_field(field, touring)
+        }
+    }
+}
+
+fn main(rt: HostRuntime) -> ExitCode {
+    TOUR.main(&rt, |options| work(&rt, options))
 }

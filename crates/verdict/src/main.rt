@@ -1,60 +1,65 @@
-//! Compares two tables: reads their texts, and writes the line that reports on them.
+//! Compares two tables: reads their texts, and prints the line that reports on them.
 #![tactic(auto)]
 
-ghost use Rattle.std.specs.Prelude.{◌*◌, ◌^◌, ◌<◌, ◌≤◌, IfOk, vec_len};
-ghost use Rattle.std.specs.Mem.{type_size};
+ghost use Rattle.std.specs.Prelude.{◌≤◌};
 ghost use Rattle.verdict.specs.Reporting.{ReportsOver};
 
-use anyhow::anyhow;
 use byte::Byte;
-use command::files::{MOST, failed, read_if_there};
-use command::offered::{Offered, OverField, with_field};
+use command::arguments::{Accepted, Options, name_or};
+use command::error::Error;
+use command::field_choice::FieldChoice;
+use command::files::{TEXT_LIMIT, read_error, read_if_there, read_input, shown, write_error};
 use command::program::Program;
-use command::wish::name_or;
-use field::Field;
+use command::refused::{Refused, letters_in};
+use command::status::Status;
 use report::{LONGEST, report_over};
 use residue::{Bit, Fermat};
-use rows::table::LARGEST;
-use std::io;
+use std::fmt::Display;
 use std::io::Write;
 use std::process::ExitCode;
-use text::table::read_table;
+use std::str;
 
-const HELP: &str = "usage: verdict [--field Q] [FIRST SECOND]
+const HELP: &str = "usage: verdict [--field Q] [--status] [-q] [FIRST SECOND]
 
-Reads the texts of two tables from FIRST and SECOND (without them, from the
-files first and second of the current folder; a missing file counts as an empty
-text), and writes one line to standard output, numbers in 11 columns each:
+Reads the texts of two tables from FIRST and SECOND (default: the files first
+and second, where a missing file counts as an empty text), and prints one line,
+numbers in 11 columns each. - stands for standard input.
 
-  Q TRIED KEPT                         all words weigh alike
-  D TRIED LENGTH CODE CODE LETTER..    the first word that does not, with the
-                                       codes of its weights
-  R TEXT REFUSAL LINE COLUMN           the text 1 or 2 is refused; 0 5 0 0 where
-                                       the letter counts differ
+  Q TRIED KEPT                       every word has the same weight in both
+  D TRIED LENGTH CODE CODE LETTER..  the first word that has not, with the codes
+                                     of its two weights
+  R TEXT REFUSAL LINE COLUMN         text 1 or 2 is refused
+  R 0 5 0 0                          the tables have different letter counts
 
-  --field Q   the field: 2, 256 or 65537 elements; 65537 without it
-  --help      tells this
-  --version   tells the version
+  --field Q      the field: 2, 256 or 65537 elements (default: 65537)
+  --status       ends with status 0 after Q, 1 after D, 2 after R or an error
+  -q, --quiet    prints no line
+  -h, --help     prints this
+  -V, --version  prints the version
 
-A text that is refused is told on standard error too, with its file, line,
-column and the reason. The status is 0 where a line was written, and 1 where a
-file cannot be read or the command line is wrong.";
+A refusal is explained on standard error.
+
+Exit status without --status: 0 if the line was printed, 1 if a file cannot be
+read, 2 if the command line is wrong.";
 
 const VERDICT: Program<'static> = Program {
     name: "verdict",
     usage: HELP,
-    files: 2,
+    accepted: Accepted {
+        files: 2,
+        compares: true,
+    },
 };
 
 // Writes the line that reports on two texts, over a field that is offered, and returns how many bytes it has.
-fn report_offered(field: Offered, first: &[u8], second: &[u8], line: &mut [u8]) -> usize
+fn report_offered(field: FieldChoice, first: &[u8], second: &[u8], line: &mut [u8]) -> usize
     ensures reports { ReportsOver field first.now second.now line.old result line.new }
     ensures at_most_387 { result ≤ 387 }
 {
     match field {
-        Offered::Bits => report_over::<Bit>(first, second, line),
-        Offered::Bytes => report_over::<Byte>(first, second, line),
-        Offered::Fermat => report_over::<Fermat>(first, second, line),
+        FieldChoice::Bits => report_over::<Bit>(first, second, line),
+        FieldChoice::Bytes => report_over::<Byte>(first, second, line),
+        FieldChoice::Fermat => report_over::<Fermat>(first, second, line),
     }
 }
 
@@ -65,59 +70,135 @@ struct Named<'a> {
     text: &'a [u8],
 }
 
-// Two texts, the first refused of which is to be told, over the field that is chosen.
-struct Refused<'a> {
-    rt: &'a HostRuntime,
-    first: Named<'a>,
-    second: Named<'a>,
+// A number of a report line, from 0.
+fn number(line: &[u8], i: usize) -> Option<u32> {
+    let first = i.checked_mul(11)?.checked_add(1)?;
+    let columns = line.get(first..first.checked_add(11)?)?;
+    str::from_utf8(columns)
+        .ok()?
+        .trim_start()
+        .parse::<u32>()
+        .ok()
 }
 
-// Tells why a text is refused, and where; whether it is.
-fn tell_refused<F: Field>(rt: &HostRuntime, named: Named<'_>) -> io::Result<bool>
-    requires elements_fit { 12544 * type_size F.row < 2 ^ 63 }
-{
-    let mut memory = [F::zero(); LARGEST];
-    let Err(fault) = read_table(named.text, &mut memory) else {
-        return Ok(false);
-    };
-    let name = named.name;
-    let (line, column) = fault.position();
-    eprintln!(rt; "{name}: line {line}, column {column}: {fault}")?;
-    Ok(true)
+// What a refusal's line says: the text, the refusal's number, line and column.
+#[derive(Clone, Copy)]
+struct Refusal {
+    text: u32,
+    number: u8,
+    position: (u32, u32),
 }
 
-impl OverField for Refused<'_> {
-    type Output = io::Result<()>;
-
-    // What is told is no part of the result.
-    ghost gives = { λ q texts done. Unit {0} };
-
-    fn over<F: Field>(self) -> io::Result<()> {
-        let Refused { rt, first, second } = self;
-        if !tell_refused::<F>(rt, first)? {
-            tell_refused::<F>(rt, second)?;
+impl Refusal {
+    // Nothing where the line does not begin with R.
+    fn of(line: &[u8]) -> Option<Refusal> {
+        if !line.starts_with(b"R") {
+            return None;
         }
-        Ok(())
+        Some(Refusal {
+            text: number(line, 0)?,
+            number: u8::try_from(number(line, 1)?).ok()?,
+            position: (number(line, 2)?, number(line, 3)?),
+        })
     }
 }
 
-// Reads a file; one that is there and cannot be read is told.
-fn read(rt: &HostRuntime, name: &str) -> anyhow::Result<Vec<u8>>
-    ensures within { IfOk result (λ v. vec_len v ≤ MOST) }
-{
-    read_if_there(rt, name, MOST).map_err(|e| failed(rt, name, e, "a file cannot be read"))
+// Prints a message on standard error.
+fn explain<D: Display + Drop>(rt: &HostRuntime, message: D) -> Result<(), Error> {
+    let name = VERDICT.name;
+    eprintln!(rt; "{name}: {message}")?;
+    Ok(())
 }
 
-// Reads both texts, and writes the line; a text that is refused is told.
-fn work<'a>(rt: &'a HostRuntime, field: Offered, files: &'a [String]) -> anyhow::Result<()> {
+// Explains a refusal. Where no field was named and both texts are over another that is offered, names its option.
+fn explain_refusal(
+    rt: &HostRuntime,
+    refusal: Refusal,
+    field: Option<FieldChoice>,
+    first: Named<'_>,
+    second: Named<'_>,
+) -> Result<(), Error> {
+    let named = match refusal.text {
+        1 => first,
+        2 => second,
+        _ => {
+            let letters = (
+                letters_in(first.text).unwrap_or(0),
+                letters_in(second.text).unwrap_or(0),
+            );
+            let names = (shown(first.name), shown(second.name));
+            return explain(
+                rt,
+                format_args!(
+                    "the letter counts differ: {} in {}, {} in {}",
+                    letters.0, names.0, letters.1, names.1
+                ),
+            );
+        }
+    };
+    explain(
+        rt,
+        Refused {
+            name: named.name,
+            text: named.text,
+            refusal: refusal.number,
+            position: refusal.position,
+            field: Some(field.unwrap_or(FieldChoice::Fermat)),
+        },
+    )?;
+    if field.is_none() {
+        let over = FieldChoice::named_in(first.text);
+        if let Some(other) = over
+            && other != FieldChoice::Fermat
+            && over == FieldChoice::named_in(second.text)
+        {
+            let q = other.order();
+            explain(
+                rt,
+                format_args!("both tables are over {q} elements; --field {q} reads them"),
+            )?;
+        }
+    }
+    Ok(())
+}
+
+// Reads a file that the command line names, or else the one that stands in for it, which may be missing.
+fn read(rt: &HostRuntime, files: &[String], i: usize, default: &str) -> Result<Vec<u8>, Error> {
+    let name = name_or(files, i, default);
+    let text = if i < files.len() {
+        read_input(rt, name, TEXT_LIMIT)
+    } else {
+        read_if_there(rt, name, TEXT_LIMIT)
+    };
+    text.map_err(|e| read_error(rt.alloc(), name, e))
+}
+
+// How the program ends under --status: by the first byte of the line.
+fn status_of(line: &[u8]) -> Status {
+    match line {
+        [b'Q', ..] => Status::Success,
+        [b'D', ..] => Status::Failure,
+        _ => Status::Trouble,
+    }
+}
+
+// Reads both texts, and prints the line; a refusal is explained.
+fn work(rt: &HostRuntime, options: Options) -> Result<Status, Error> {
+    let heap = rt.alloc();
+    let files = options.files.as_slice();
     let names = (name_or(files, 0, "first"), name_or(files, 1, "second"));
-    let first = read(rt, names.0)?;
-    let second = read(rt, names.1)?;
+    let first = read(rt, files, 0, "first")?;
+    let second = read(rt, files, 1, "second")?;
     let mut line = [0u8; LONGEST];
+    let field = options.field.unwrap_or(FieldChoice::Fermat);
     let count = report_offered(field, first.as_slice(), second.as_slice(), &mut line);
-    rt.stdout().write_all(&line[..count])?;
-    // By the first byte: the line is all that a report answers.
-    if line[0] == b'R' {
+    let line = &line[..count];
+    if !options.quiet {
+        rt.stdout()
+            .write_all(line)
+            .map_err(|e| write_error(heap, "-", e))?;
+    }
+    if let Some(refusal) = Refusal::of(line) {
         let first = Named {
             name: names.0,
             text: first.as_slice(),
@@ -126,16 +207,14 @@ fn work<'a>(rt: &'a HostRuntime, field: Offered, files: &'a [String]) -> anyhow:
             name: names.1,
             text: second.as_slice(),
         };
-        with_field(field, Refused { rt, first, second })?;
+        explain_refusal(rt, refusal, options.field, first, second)?;
     }
-    Ok(())
+    if options.status {
+        return Ok(status_of(line));
+    }
+    Ok(Status::Success)
 }
 
-fn main(rt: HostRuntime) -> io::Result<ExitCode> {
-    VERDICT.run(&rt, |field, files| {
-        if files.len() == 1 {
-            return Err(anyhow!("two files are due, or none: --help tells which"));
-        }
-        work(&rt, field.unwrap_or(Offered::Fermat), files.as_slice())
-    })
+fn main(rt: HostRuntime) -> ExitCode {
+    VERDICT.main(&rt, |options| work(&rt, options))
 }

@@ -1,5 +1,5 @@
 use Rattle.std.specs.Vec.Iter.{into_iter_len}
-use Rattle.command.proofs.wish.wish_in.Given as goal
+use Rattle.command.proofs.arguments.arguments_in.Given as goal
 
 abbrev pub decreases-loop-word : goal.decreases-loop-word
 decreases-loop-word l = into_iter_len l.words
