@@ -243,6 +243,9 @@ impl fmt::Display for Refused<'_> {
             12 => self.write_no_number(f),
             13 => self.write_other_value(f),
             14 => write!(f, "expected the end of the line, found {}", Found(found)),
+            15 if found == Some(b'\n') => {
+                f.write_str("expected the end of the text, found an empty line")
+            }
             15 => write!(f, "expected the end of the text, found {}", Found(found)),
             number => write!(f, "refused {number}"),
         }

@@ -1,8 +1,8 @@
 //! Compares two tables: reads their texts, and prints the line that reports on them.
 #![tactic(auto)]
 
-ghost use Rattle.std.specs.Prelude.{◌≤◌};
-ghost use Rattle.verdict.specs.Reporting.{ReportsOver};
+ghost use Rattle.std.specs.Prelude.{◌≡◌, ◌≤◌};
+ghost use Rattle.verdict.specs.Reporting.{ReportsOver, status_by};
 
 use byte::Byte;
 use command::arguments::{Accepted, Options, name_or};
@@ -174,7 +174,9 @@ fn read(rt: &HostRuntime, files: &[String], i: usize, default: &str) -> Result<V
 }
 
 // How the program ends under --status: by the first byte of the line.
-fn status_of(line: &[u8]) -> Status {
+fn status_of(line: &[u8]) -> Status
+    ensures by_first_byte { result ≡ status_by line.now }
+{
     match line {
         [b'Q', ..] => Status::Success,
         [b'D', ..] => Status::Failure,
