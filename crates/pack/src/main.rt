@@ -124,7 +124,8 @@ impl OverField for Packing<'_> {
         ))?;
         let name = shown(self.name);
         let order = F::order();
-        eprintln!(rt; "{}", Summary { name, order, done })?;
+        // The text is written; a summary that cannot be is no error.
+        let _ = eprintln!(rt; "{}", Summary { name, order, done });
         Ok(Status::Success)
     }
 }

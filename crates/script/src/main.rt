@@ -186,7 +186,7 @@ fn work(rt: &HostRuntime, options: Options) -> Result<Status, Error> {
                     unreadable: unreadable.as_slice(),
                     mistake: *mistake,
                 };
-                eprintln!(rt; "{}: {shown}", SCRIPT.name)?;
+                let _ = eprintln!(rt; "{}: {shown}", SCRIPT.name);
             }
             Ok(Status::Failure)
         }

@@ -2,8 +2,7 @@
 //! table's text.
 #![tactic(auto)]
 
-ghost use Rattle.std.specs.Prelude.{◌*◌, ◌^◌, ◌<◌};
-ghost use Rattle.std.specs.Mem.{type_size};
+ghost use Rattle.std.specs.Prelude.{◌≡◌, ◌*◌, ◌≤◌, length};
 
 use command::arguments::{Accepted, Options};
 use command::error::Error;
@@ -122,59 +121,64 @@ impl Touring<'_> {
     }
 }
 
+// Multiplies a table by itself, and writes the product to the front of `squared`: its shape.
+fn square_into<F: Field>(table: TableRef<'_, F>, squared: &mut [F]) -> Shape
+    requires few { table.shape.states ≤ 4 }
+    requires room { 1568 ≤ length squared.old }
+    ensures squared { result.states ≡ table.entry.shape.states * table.entry.shape.states }
+    ensures same_letters { result.letters ≡ table.entry.shape.letters }
+{
+    let shape = table.shape();
+    let product = Shape::new(shape.states * shape.states, shape.letters);
+    multiply(table, table, &mut squared[0..product.size()]);
+    product
+}
+
 impl OverField for Touring<'_> {
     type Output = Result<Status, Error>;
 
     // What is printed is no part of the result.
     ghost gives = { λ q touring done. Unit {0} };
 
+    // Squares the table, packs the square, and compares.
     fn over<F: Field>(self) -> Result<Status, Error> {
+        let rt = self.rt;
         let mut memory = [F::zero(); LARGEST];
         let shape = read_table(self.text, &mut memory).map_err(|fault| self.refused(fault))?;
-        show(self.rt, TableRef::new(&memory, shape))?;
+        if shape.states > 4 {
+            return Err(Error::new(
+                rt.alloc(),
+                format_args!(
+                    "the table has {} states, and its square over 16",
+                    shape.states
+                ),
+            ));
+        }
+        let mut squared = [F::zero(); LARGEST];
+        let mut work = [F::zero(); WORK];
+        let square_shape = square_into(TableRef::new(&memory, shape), &mut squared);
+        let states = reduce(&mut work, TableRef::new(&squared, square_shape));
+        let packed_shape = Shape::new(states, shape.letters);
+        let mut packed = [F::zero(); LARGEST];
+        let (form, _) = work.split_at(LARGEST);
+        packed.copy_from_slice(form);
+        println!(rt;
+            "states: {} squared to {}, packed to {}",
+            shape.states, square_shape.states, states
+        )?;
+        let same = Pair {
+            left: TableRef::new(&squared, square_shape),
+            right: TableRef::new(&packed, packed_shape),
+        };
+        println!(rt; "{}", Found(compare(&mut work, same)))?;
+        let other = Pair {
+            left: TableRef::new(&memory, shape),
+            right: TableRef::new(&squared, square_shape),
+        };
+        println!(rt; "{}", Found(compare(&mut work, other)))?;
+        print_table(rt, TableRef::new(&packed, packed_shape))?;
         Ok(Status::Success)
     }
-}
-
-// Squares a table, packs the square, and compares.
-fn show<F: Field>(rt: &HostRuntime, table: TableRef<'_, F>) -> Result<(), Error>
-    requires elements_fit { 12544 * type_size F.row < 2 ^ 63 }
-{
-    let shape = table.shape();
-    if shape.states > 4 {
-        return Err(Error::new(
-            rt.alloc(),
-            format_args!(
-                "the table has {} states, and its square over 16",
-                shape.states
-            ),
-        ));
-    }
-    let mut squared = [F::zero(); LARGEST];
-    let mut work = [F::zero(); WORK];
-    let square_shape = Shape::new(shape.states * shape.states, shape.letters);
-    multiply(table, table, &mut squared[0..square_shape.size()]);
-    let square = TableRef::new(&squared, square_shape);
-    let states = reduce(&mut work, square);
-    let packed_shape = Shape::new(states, shape.letters);
-    let mut packed = [F::zero(); LARGEST];
-    packed.copy_from_slice(&work[0..LARGEST]);
-    let packed = TableRef::new(&packed, packed_shape);
-    println!(rt;
-        "states: {} squared to {}, packed to {}",
-        shape.states, square_shape.states, states
-    )?;
-    let form = Pair {
-        left: square,
-        right: packed,
-    };
-    println!(rt; "{}", Found(compare(&mut work, form)))?;
-    let other = Pair {
-        left: table,
-        right: square,
-    };
-    println!(rt; "{}", Found(compare(&mut work, other)))?;
-    print_table(rt, packed)
 }
 
 // Reads the text, and shows its table over the field that is named, in the command line or else in the text.

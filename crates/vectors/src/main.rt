@@ -1,5 +1,5 @@
-//! Performs the script in the file `script.txt`, then reports on the pairs of texts in the file `pairs.bin`, and prints
-//! what is told of both. What is expected was computed by the independent program in the folder `tests`.
+//! Performs the script in the file `script.txt`, then reports on the pairs of texts in the file `pairs.bin`, and prints the
+//! results. The expected output was computed by the independent program in the folder `tests`.
 #![tactic(auto)]
 
 ghost use Rattle.std.specs.Prelude.{◌<◌, length, IfOk, IfSome};
@@ -12,7 +12,7 @@ use scripting::words::before;
 use std::fs;
 use std::io::Write;
 
-// The text in the first block of a stream, and what follows the block: a block is a line with a number of bytes, so many
+// The text in the first block of a stream, and what follows the block. A block is a line with a number of bytes, so many
 // bytes, and a newline.
 fn block(stream: &[u8]) -> Option<(&[u8], &[u8])>
     ensures shorter { IfSome result (λ x. length x.1.now < length stream.now) }
@@ -25,7 +25,7 @@ fn block(stream: &[u8]) -> Option<(&[u8], &[u8])>
     Some((text, rest))
 }
 
-// Reports on the first pair of a stream, and answers what follows it.
+// Reports on the first pair of a stream, and returns what follows it.
 fn report_pair<'a>(rt: &HostRuntime, stream: &'a [u8]) -> anyhow::Result<&'a [u8]>
     ensures shorter { IfOk result (λ rest. length rest.now < length stream.now) }
 {

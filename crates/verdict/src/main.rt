@@ -103,63 +103,68 @@ impl Refusal {
     }
 }
 
-// Prints a message on standard error.
-fn explain<D: Display + Drop>(rt: &HostRuntime, message: D) -> Result<(), Error> {
+// Prints a message on standard error. The line is printed before; a message that cannot be is no error.
+fn explain<D: Display + Drop>(rt: &HostRuntime, message: D) {
     let name = VERDICT.name;
-    eprintln!(rt; "{name}: {message}")?;
-    Ok(())
+    let _ = eprintln!(rt; "{name}: {message}");
 }
 
-// Explains a refusal. Where no field was named and both texts are over another that is offered, names its option.
+// Explains that two tables have different letter counts.
+fn explain_letters(rt: &HostRuntime, first: Named<'_>, second: Named<'_>) {
+    let left = letters_in(first.text).unwrap_or(0);
+    let right = letters_in(second.text).unwrap_or(0);
+    let names = (shown(first.name), shown(second.name));
+    explain(
+        rt,
+        format_args!(
+            "the letter counts differ: {left} in {}, {right} in {}",
+            names.0, names.1
+        ),
+    );
+}
+
+// Names the option that reads both texts, if they are over one field that is offered, another than GF(65537).
+fn suggest_field(rt: &HostRuntime, first: Named<'_>, second: Named<'_>) {
+    let over = FieldChoice::named_in(first.text);
+    match over {
+        None | Some(FieldChoice::Fermat) => {}
+        Some(_) if over != FieldChoice::named_in(second.text) => {}
+        Some(field) => {
+            let q = field.order();
+            explain(
+                rt,
+                format_args!("both tables are over {q} elements; --field {q} reads them"),
+            );
+        }
+    }
+}
+
+// Explains a refusal.
 fn explain_refusal(
     rt: &HostRuntime,
     refusal: Refusal,
     field: Option<FieldChoice>,
     first: Named<'_>,
     second: Named<'_>,
-) -> Result<(), Error> {
-    let named = match refusal.text {
+) {
+    let refused = match refusal.text {
         1 => first,
         2 => second,
-        _ => {
-            let letters = (
-                letters_in(first.text).unwrap_or(0),
-                letters_in(second.text).unwrap_or(0),
-            );
-            let names = (shown(first.name), shown(second.name));
-            return explain(
-                rt,
-                format_args!(
-                    "the letter counts differ: {} in {}, {} in {}",
-                    letters.0, names.0, letters.1, names.1
-                ),
-            );
-        }
+        _ => return explain_letters(rt, first, second),
     };
     explain(
         rt,
         Refused {
-            name: named.name,
-            text: named.text,
+            name: refused.name,
+            text: refused.text,
             refusal: refusal.number,
             position: refusal.position,
             field: Some(field.unwrap_or(FieldChoice::Fermat)),
         },
-    )?;
+    );
     if field.is_none() {
-        let over = FieldChoice::named_in(first.text);
-        if let Some(other) = over
-            && other != FieldChoice::Fermat
-            && over == FieldChoice::named_in(second.text)
-        {
-            let q = other.order();
-            explain(
-                rt,
-                format_args!("both tables are over {q} elements; --field {q} reads them"),
-            )?;
-        }
+        suggest_field(rt, first, second);
     }
-    Ok(())
 }
 
 // Reads a file that the command line names, or else the one that stands in for it, which may be missing.
@@ -209,7 +214,7 @@ fn work(rt: &HostRuntime, options: Options) -> Result<Status, Error> {
             name: names.1,
             text: second.as_slice(),
         };
-        explain_refusal(rt, refusal, options.field, first, second)?;
+        explain_refusal(rt, refusal, options.field, first, second);
     }
     if options.status {
         return Ok(status_of(line));
