@@ -14,7 +14,7 @@ use crate::tracking::{TRACKED, track_row};
 use crate::vectors::{negate_row, project_row, unit_row};
 use crate::view::View;
 use field::Field;
-use rows::row::{clear_row, row_times_matrix};
+use rows::row::clear_row;
 use spanning::{Pivots, WIDTH};
 
 /// How many elements the coefficients of a leading word take: 16 for each letter, from letter 0 on, which is none.
@@ -52,7 +52,7 @@ fn next_row<F: Field>(
     let n = view.table.states();
     let (found, rest) = rows.split_at_mut(count * WIDTH);
     let next = &mut rest[..n];
-    row_times_matrix(
+    F::row_times_matrix(
         &found[i * WIDTH..i * WIDTH + n],
         view.table.matrix(letter),
         next,

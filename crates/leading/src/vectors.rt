@@ -6,7 +6,6 @@ ghost use Rattle.spanning.specs.Views.{columns_of};
 ghost use Rattle.leading.specs.Units.{unit};
 
 use field::Field;
-use rows::row::dot;
 use spanning::WIDTH;
 
 /// Writes to `to` the products of the row with the first of the columns, which take 16 elements each.
@@ -16,7 +15,7 @@ pub fn project_row<F: Field>(row: &[F], columns: &[F], to: &mut [F])
     ensures products_written { RowOf F.field F.value (length to.old) (λ j. product F.field (length row.now) (at F.field F.value row.now) (columns_of F.field F.value columns.now j)) to.new }
 {
     for (j, x) in to.iter_mut().enumerate() {
-        *x = dot(row, columns, j * WIDTH, 1);
+        *x = F::dot(row, columns, j * WIDTH, 1);
     }
 }
 

@@ -7,7 +7,7 @@ ghost use Rattle.rows.specs.Seen.{table_of, HoldsTable};
 ghost use Rattle.rows.specs.Tables.{Weighs};
 
 use field::Field;
-use rows::row::{row_times_matrix, scale_row};
+use rows::row::scale_row;
 use rows::table::TableRef;
 
 /// A table scaled: its end column times `factor`.
@@ -30,6 +30,6 @@ pub fn after<F: Field>(table: TableRef<'_, F>, letter: usize, to: &mut [F])
 {
     let n = table.states();
     let (start, rest) = to.split_at_mut(n);
-    row_times_matrix(table.start(), table.matrix(letter), start);
+    F::row_times_matrix(table.start(), table.matrix(letter), start);
     rest.copy_from_slice(&table.elements()[n..]);
 }

@@ -6,23 +6,6 @@ ghost use Rattle.rows.specs.Arithmetic.{multiple, FirstNonzero};
 
 use field::Field;
 
-/// The row times the column of `ys` whose elements lie `step` apart from `column` on.
-pub fn dot<F: Field>(row: &[F], ys: &[F], column: usize, step: usize) -> F
-    requires column_within { (i : ℕ) → i < length row.now → column + i * step < length ys.now }
-    ensures is_dot_product { F.value result ≡ product F.field (length row.now) (at F.field F.value row.now) (λ i. at F.field F.value ys.now (column + i * step)) }
-{
-    F::dot(row, ys, column, step)
-}
-
-/// Writes to `to` the row times the matrix of as many rows and columns.
-pub fn row_times_matrix<F: Field>(row: &[F], matrix: &[F], to: &mut [F])
-    requires square { length matrix.now ≡ length row.now * length row.now }
-    requires as_long { length to.old ≡ length row.now }
-    ensures product_written { RowOf F.field F.value (length row.now) (move F.field (length row.now) (square_at F.field F.value matrix.now 0 (length row.now)) (at F.field F.value row.now)) to.new }
-{
-    F::row_times_matrix(row, matrix, to);
-}
-
 /// Writes to `to` the matrix of as many rows and columns times the column.
 pub fn matrix_times_column<F: Field>(matrix: &[F], column: &[F], to: &mut [F])
     requires square { length matrix.now ≡ length column.now * length column.now }
@@ -31,7 +14,7 @@ pub fn matrix_times_column<F: Field>(matrix: &[F], column: &[F], to: &mut [F])
 {
     let n = column.len();
     for (i, x) in to.iter_mut().enumerate() {
-        *x = dot(&matrix[i * n..i * n + n], column, 0, 1);
+        *x = F::dot(&matrix[i * n..i * n + n], column, 0, 1);
     }
 }
 

@@ -4,7 +4,6 @@ ghost use Rattle.rows.specs.Memory.{Frame};
 ghost use Rattle.rows.specs.Seen.{table_of};
 ghost use Rattle.rows.specs.Weighing.{Weighed};
 
-use crate::row::{dot, row_times_matrix};
 use crate::table::TableRef;
 use field::Field;
 
@@ -31,8 +30,8 @@ pub fn weigh<F: Field>(
     row.copy_from_slice(table.start());
     for (i, a) in word.iter().enumerate() {
         let letter = table.letter(*a).ok_or(LetterOutside { position: i + 1 })?;
-        row_times_matrix(row, table.matrix(letter), next);
+        F::row_times_matrix(row, table.matrix(letter), next);
         row.copy_from_slice(next);
     }
-    Ok(dot(row, table.end(), 0, 1))
+    Ok(F::dot(row, table.end(), 0, 1))
 }

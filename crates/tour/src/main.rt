@@ -107,14 +107,13 @@ struct Touring<'a> {
 impl Touring<'_> {
     // Why the text is refused.
     fn refused(&self, fault: LoadFault) -> Error {
-        let at = fault.position();
         Error::new(
             self.rt.alloc(),
             Refused {
                 name: self.name,
                 text: self.text,
                 refusal: fault.refusal(),
-                position: (at.line, at.column),
+                position: fault.position(),
                 field: self.named,
             },
         )

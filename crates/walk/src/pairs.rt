@@ -2,7 +2,6 @@
 ghost use Rattle.std.specs.Prelude.{◌≡◌, ◌≤◌, [], length, ⊤};
 
 use field::Field;
-use rows::row::{dot, row_times_matrix};
 use rows::table::TableRef;
 use std::alloc::AllocError;
 
@@ -66,8 +65,8 @@ impl<'a, F: Field> Pair<'a, F> {
         let n = self.left.states();
         let (left, right) = row.split_at(n);
         let (to_left, to_right) = to.split_at_mut(n);
-        row_times_matrix(left, self.left.matrix(letter), to_left);
-        row_times_matrix(right, self.right.matrix(letter), to_right);
+        F::row_times_matrix(left, self.left.matrix(letter), to_left);
+        F::row_times_matrix(right, self.right.matrix(letter), to_right);
     }
 
     /// The codes of the row's outcomes, each part of it times the end column of its table, if they are not the same. The outcomes
@@ -77,8 +76,8 @@ impl<'a, F: Field> Pair<'a, F> {
         ensures compares_outcomes { ComparesOutcomes F.field F.value self.entry row.now result }
     {
         let (left, right) = row.split_at(self.left.states());
-        let left = dot(left, self.left.end(), 0, 1);
-        let right = dot(right, self.right.end(), 0, 1);
+        let left = F::dot(left, self.left.end(), 0, 1);
+        let right = F::dot(right, self.right.end(), 0, 1);
         if left.same(right) {
             return None;
         }
