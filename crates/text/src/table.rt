@@ -1,5 +1,5 @@
 //! A whole text read into memory.
-ghost use Rattle.std.specs.Prelude.{◌≡◌, ◌+◌, ◌*◌, ◌≤◌, false, length, is_ok, OnOk, IfOk, IfErr, MatchResult, ◌≢◌};
+ghost use Rattle.std.specs.Prelude.{◌≡◌, ◌+◌, ◌*◌, ◌≤◌, false, length, is_ok, OnOk, IfOk, OnErr, IfErr, ◌≢◌};
 ghost use Rattle.series.specs.Tables.{Table};
 ghost use Rattle.rows.specs.Memory.{Frame};
 ghost use Rattle.rows.specs.Layout.{table_size, table_at};
@@ -44,7 +44,8 @@ pub fn read_table<F: Field>(text: &[u8], work: &mut [F]) -> Result<Shape, LoadFa
     ensures accepted { IfOk result (λ shape. Accepts F.field F.value text.now shape work.new) }
     ensures refused { IfErr result (Refuses F.field text.now) }
     ensures refused_has_no_table { is_ok result ≡ false → (T : Table F.Value) → Sized T → text.now ≢ text_of F.field T }
-    ensures table_alone_written { MatchResult result (λ shape. Frame 0 (table_size shape.states shape.letters) work.old work.new) (λ _. Frame 0 1568 work.old work.new) }
+    ensures table_alone_written { IfOk result (λ shape. Frame 0 (table_size shape.states shape.letters) work.old work.new) }
+    ensures front_alone_written { OnErr result (Frame 0 1568 work.old work.new) }
 {
     let mut reader = Reader::new(text);
     let shape = table_line::<F>(&mut reader)?;

@@ -79,7 +79,9 @@ pub fn text_size(shape: Shape) -> usize
     ensures at_most { result ≤ 19593 }
 {
     let n = shape.states;
-    41 + 22 * n + shape.letters * n * (24 + 11 * n)
+    let size = 41 + 22 * n + shape.letters * n * (24 + 11 * n);
+    prove!(size <= LONGEST);
+    size
 }
 
 /// Writes the text of a table to the front of `output` and returns its length in bytes.

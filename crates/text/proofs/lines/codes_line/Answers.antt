@@ -1,6 +1,7 @@
 use Rattle.std.proofs.Common.{refl, ◌∙◌}
 use Rattle.std.proofs.lemmas.List.{length-map}
 use Rattle.columns.specs.Lines.{due_letter}
+use Rattle.reader.specs.Items.{exact_items}
 use Rattle.text.proofs.Codes.{high_small, codes_high}
 use Rattle.reader.proofs.Moves.{errs}
 use Rattle.reader.proofs.Runs.{stops_here, head_stops, stops_front, exact_past, goes_append, goes_exact, goes_row, heads_after, went_on, line_stops, expects_on}
@@ -12,7 +13,7 @@ returns-in_err-head-clause-stops g c = errs _ _ _ c.from_residual.ensures.1 (sto
 pub returns-in_err-exactly-clause-stops : goal.returns-in_err-exactly-clause-stops
 returns-in_err-exactly-clause-stops g c = errs _ _ _ c.from_residual-in_err-exactly.ensures.1
     (head_stops (due_letter c.args.reader.now.due) _ c.args.reader.now c.head.new.self _ c.in_ok-head.ensures.first_byte
-    (stops_front _ _ _ _ _ (stops_front _ _ _ _ _ c.in_err-exactly.ensures.stops)))
+    (stops_front _ _ _ _ _ (stops_front (exact_items c.args.heads.now) _ _ _ _ c.in_err-exactly.ensures.stops)))
 
 pub returns-in_err-codes-clause-stops : goal.returns-in_err-codes-clause-stops
 returns-in_err-codes-clause-stops g c =
