@@ -1,7 +1,7 @@
-/* Compares the tables in two files: prints the line of `report`, and then a sentence for a person.
+/* Compares the tables in two files: prints the line of `gorvaneth_report`, and then a sentence that explains it.
  * usage: compare FIRST SECOND
- * The status is 0 where all words weigh alike, 1 where one does not, and 2 where a text is refused, a file cannot be
- * read, or the command line is wrong. */
+ * The status is 0 where all words weigh alike, 1 where some word differs, and 2 where a text is refused, a file cannot
+ * be read, or the command line is wrong. */
 #include "gorvaneth.h"
 
 #include <inttypes.h>
@@ -9,7 +9,7 @@
 
 enum status { ALIKE = 0, DIFFERENT = 1, REFUSED = 2 };
 
-/* The number in the columns of position i, from 0, of a line. */
+/* Number i, from 0, of a line. */
 static uint64_t number_at(const uint8_t *line, size_t i)
 {
     uint64_t n = 0;
@@ -32,7 +32,7 @@ static const char *reason(uint64_t refusal)
     }
 }
 
-/* Reads at most one byte more than the longest text has; 0 where the file cannot be read. */
+/* Reads at most one byte more than the longest text has. Returns 0 where the file cannot be read. */
 static int read_text(const char *name, uint8_t *text, size_t *length)
 {
     FILE *file = fopen(name, "rb");
@@ -44,7 +44,7 @@ static int read_text(const char *name, uint8_t *text, size_t *length)
     return fclose(file) == 0 && good;
 }
 
-static enum status tell_different(const uint8_t *line)
+static enum status print_different(const uint8_t *line)
 {
     uint64_t length = number_at(line, 1), i;
     if (length == 0)
@@ -58,7 +58,7 @@ static enum status tell_different(const uint8_t *line)
     return DIFFERENT;
 }
 
-static enum status tell_refused(const uint8_t *line, char **names)
+static enum status print_refused(const uint8_t *line, char **names)
 {
     uint64_t text = number_at(line, 0);
     if (text == 0)
@@ -69,14 +69,14 @@ static enum status tell_refused(const uint8_t *line, char **names)
     return REFUSED;
 }
 
-static enum status tell(const uint8_t *line, char **names)
+static enum status explain(const uint8_t *line, char **names)
 {
     switch (line[0]) {
     case 'Q':
         printf("all words weigh alike: %" PRIu64 " tried, %" PRIu64 " kept\n", number_at(line, 0), number_at(line, 1));
         return ALIKE;
-    case 'D': return tell_different(line);
-    default: return tell_refused(line, names);
+    case 'D': return print_different(line);
+    default: return print_refused(line, names);
     }
 }
 
@@ -95,7 +95,7 @@ int main(int argc, char **argv)
             perror(argv[1 + i]);
             return REFUSED;
         }
-    count = report(text[0], length[0], text[1], length[1], line, sizeof line);
+    count = gorvaneth_report(text[0], length[0], text[1], length[1], line, sizeof line);
     fwrite(line, 1, count, stdout);
-    return (int)tell(line, argv + 1);
+    return (int)explain(line, argv + 1);
 }

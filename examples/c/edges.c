@@ -1,5 +1,5 @@
-/* Tries what gorvaneth.h promises at the edges: outputs of 386, 387 and more bytes, null with length 0, and the longest
- * text. Prints what it found; the status is 1 where something is not as promised. */
+/* Tests what gorvaneth.h promises at the limits: outputs of 386, 387 and more bytes, null with length 0, the longest
+ * text, and the shorter name. Prints each result; the status is 1 where one is not as promised. */
 #include "gorvaneth.h"
 #include "longest.h"
 
@@ -36,16 +36,19 @@ int main(void)
     check("the longest text has 19593 bytes", length == GORVANETH_TEXT);
 
     memset(line, PAINT, sizeof line);
-    count = report(texts, length, texts, length, line, GORVANETH_LINE - 1);
-    check("an output of 386 bytes gives 0, and nothing is written", count == 0 && kept_from(0));
-    count = report(texts, length, texts, length, line, GORVANETH_LINE);
-    check("one of 387 bytes gets the line, and later bytes stay", count == 24 && !memcmp(line, alike, 24) && kept_from(24));
+    count = gorvaneth_report(texts, length, texts, length, line, GORVANETH_LINE - 1);
+    check("an output of 386 bytes gives 0, and is unchanged", count == 0 && kept_from(0));
+    count = gorvaneth_report(texts, length, texts, length, line, GORVANETH_LINE);
+    check("one of 387 bytes gets the line, and later bytes are unchanged", count == 24 && !memcmp(line, alike, 24) && kept_from(24));
     memset(line, PAINT, sizeof line);
-    count = report(NULL, 0, NULL, 0, line, sizeof line);
+    count = gorvaneth_report(NULL, 0, NULL, 0, line, sizeof line);
     check("null with length 0 is an empty text", count == 46 && !memcmp(line, empty, 46) && kept_from(46));
-    check("null with length 0 is an output without room", report(texts, length, texts, length, NULL, 0) == 0);
+    check("null with length 0 is an output that is too short", gorvaneth_report(texts, length, texts, length, NULL, 0) == 0);
+    memset(line, PAINT, sizeof line);
+    count = report(texts, length, texts, length, line, sizeof line);
+    check("report gives the same line", count == 24 && !memcmp(line, alike, 24) && kept_from(24));
     text[length] = '#';
-    count = report(texts, length + 1, texts, length, line, sizeof line);
+    count = gorvaneth_report(texts, length + 1, texts, length, line, sizeof line);
     check("a byte more than the longest text is refused",
           count == 46 && !memcmp(line, "R          1         15        101          1\n", 46));
     return failed;

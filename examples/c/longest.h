@@ -1,4 +1,4 @@
-/* The longest text of a table, for what is tried with it. */
+/* The longest text of a table, which edges.c and stack.c use. */
 #include <stddef.h>
 #include <stdio.h>
 
@@ -7,7 +7,7 @@ static size_t number(char *at, unsigned long n)
     return (size_t)sprintf(at, "%11lu", n);
 }
 
-/* The longest text: 16 states and 6 letters; the letter a goes a states on, round a ring. */
+/* Writes the longest text, of 16 states and 6 letters: the letter a goes a states on, round a ring. Returns its length. */
 static size_t longest_text(char *text)
 {
     size_t at = 0;

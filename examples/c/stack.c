@@ -1,5 +1,5 @@
-/* Tells how much of the stack a call touches: makes it in a thread whose stack is painted first. The status is 1 where
- * that is more than GORVANETH_STACK. */
+/* Measures how much of the stack a call touches: makes it in a thread whose stack is painted first. The status is 1
+ * where that is more than GORVANETH_STACK. */
 #define _POSIX_C_SOURCE 200809L
 #include "gorvaneth.h"
 #include "longest.h"
@@ -21,7 +21,7 @@ static union {
 static void *call(void *unused)
 {
     uint8_t line[GORVANETH_LINE];
-    count = report((const uint8_t *)text, length, (const uint8_t *)text, length, line, sizeof line);
+    count = gorvaneth_report((const uint8_t *)text, length, (const uint8_t *)text, length, line, sizeof line);
     return unused;
 }
 

@@ -1,7 +1,8 @@
-//! What came of packing a table.
+//! The result of packing a table.
 use book::verdict::Verdict;
 
-/// How many states the table had and has, how many bytes its text now has, and how the two tables compare.
+/// The state counts of the table and of the packed table, how many bytes the packed text has, and the verdict on the two
+/// tables.
 #[derive(Clone, Copy)]
 pub struct Packed {
     pub before: usize,

@@ -1,4 +1,4 @@
--- What two loads and a compare find is what is told of the texts. Assumes nothing.
+-- What two loads and a compare find is what the report line says of the texts. Assumes nothing.
 use Rattle.std.proofs.Common.{◌≡◌, ℕ, ◌≤◌, List, length, true, true≢false, Ok, Err, Result, MatchResult, sym, refl, ap, ◌∙◌, subst, inl, inr, arith}
 use Rattle.std.specs.Result.{is_ok, IsErrAnd}
 use Rattle.field.specs.FiniteField.{FiniteField}

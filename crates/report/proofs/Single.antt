@@ -1,4 +1,4 @@
--- Two texts have one line, and it begins with Q exactly where the tables weigh alike. Assumes nothing.
+-- Two texts have one report line, and it begins with Q exactly where the tables weigh alike. Assumes nothing.
 use Rattle.std.proofs.Common.{◌≡◌, ℕ, ◌≢◌, List, get_or, sym, refl, ap, ◌∙◌, subst, inl, inr, arith}
 use Rattle.field.specs.FiniteField.{FiniteField}
 use Rattle.series.specs.Tables.{Table, SameTable}
