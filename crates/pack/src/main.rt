@@ -110,9 +110,9 @@ impl OverField for Packing<'_> {
         let mut shelf = [F::zero(); SHELF];
         let mut work = [F::zero(); WORK];
         let mut output = [0u8; LONGEST];
-        let done = pack(&mut shelf, &mut work, &mut output, self.text).map_err(
-            |error| self.refused(error),
-        )?;
+        let done = pack(&mut shelf, &mut work, &mut output, self.text).map_err(|error| self.refused(
+            error,
+        ))?;
         // By the contract of `pack` neither can be; the text is not written where one is.
         if done.verdict.kind != Kind::Alike || done.bytes > output.len() {
             return Err(Error::new(rt.alloc(), "the packed table weighs some word differently"));

@@ -139,11 +139,7 @@ impl OverField for Section<'_> {
 
 /// Performs a script that begins with a shelf over a field, and returns what it shows.
 // How outcomes are worded is not stated; stored scripts test it.
-pub fn perform(
-    heap: Global,
-    field: FieldChoice,
-    script: &Script,
-) -> Result<Vec<u8>, AllocError> {
+pub fn perform(heap: Global, field: FieldChoice, script: &Script) -> Result<Vec<u8>, AllocError> {
     let lines = script.lines.as_slice();
     let given = Given {
         work: WORK,

@@ -68,8 +68,7 @@ mod tests {
     #[test]
     fn wants_a_newline_after_a_text(rt: HostRuntime) -> Result<(), Failure> {
         let found = mistakes(rt.alloc(), "clear 1\ntext a 1\nbc\njump\n")?;
-        let want =
-            "line 2: expected a newline after the text\nline 4: unknown command\n";
+        let want = "line 2: expected a newline after the text\nline 4: unknown command\n";
         assert_eq!(rt; found.as_str(), want);
         Ok(())
     }

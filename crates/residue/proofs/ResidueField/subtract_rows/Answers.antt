@@ -83,7 +83,7 @@ loop-b-2-preserved-then-factor-eq0 g c =
     let x = at K value_of a.row.now in
     let inside = c.requires.pivots_within b (omega arith) in
     let factor : value_of c.residue-factor.result ≡ less_rows K b q p x (p b) =
-        c.residue-factor.ensures.is_residue ∙ at_number pr c.loop-b-2.sums (p b) (omega (arith, w.stand.len, inside)) ∙ w.stand.same (p b) inside in
+    c.residue-factor.ensures.is_residue ∙ at_number pr c.loop-b-2.sums (p b) (omega (arith, w.stand.len, inside)) ∙ w.stand.same (p b) inside in
     record {
       stand = stand_kept pr n b q p x c.loop-b-2.sums w.stand (sym factor ∙ same_below _ _ c.if-factor-eq0.true);
       small = λ j. omega (arith, w.small j);
