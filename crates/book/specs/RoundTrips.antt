@@ -22,6 +22,7 @@ pub record CanLoad {F : Type 0} (s : State F) (to : ℕ) : Type 0 where
   pub work : 8192 ≤ s.lent.work
 
 module _ {V : Type 0} (K : FiniteField V) {F : Type 0} (value : F → V) where
+  -- load accepts exactly the texts of tables, which are what write makes, and each call undoes the other
   pub record LoadAndWriteUndoEachOther : Type 0 where
     -- with place and memory in order, load is accepted exactly where the text is that of a table
     pub accepted : (s t : State F) (text : List ℕ) (to : ℕ) (o : Outcome)

@@ -23,6 +23,7 @@ module _ {V : Type 0} (K : FiniteField V) {F : Type 0} (value : F → V) where
     pub numbers : (i : ℕ) → at K value s.shelf.memory i ≡ at K value t.shelf.memory i
     pub lent : s.lent ≡ t.lent
 
+  -- the state before a call determines its outcome and the state after it
   pub record OutcomesAreSettled : Type 0 where
     -- a call on the same state has one outcome and leaves one state
     pub one : (s s' t t' : State F) (c : Call) (o o' : Outcome) → SameState s s'

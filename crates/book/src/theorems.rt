@@ -1,4 +1,4 @@
-//! What holds of every use of a shelf, over every lawful field, held by functions that do nothing else.
+//! Theorems on every use of a shelf, over every lawful field, each the contract of a function that does nothing else.
 ghost use Rattle.book.specs.Law.{UsesFollowTheBook};
 ghost use Rattle.book.specs.RoundTrips.{LoadAndWriteUndoEachOther};
 ghost use Rattle.book.specs.Settling.{OutcomesAreSettled};

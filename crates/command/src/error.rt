@@ -4,7 +4,7 @@ use std::error::Error as StdError;
 use std::{fmt, io};
 
 /// Why a program cannot go on: a message, or an error of input, output or memory.
-// No `anyhow::Error`, which keeps 120 bytes: the name of a file may be longer.
+// It keeps the whole message: a file's name may be longer than the 120 bytes that `anyhow::Error` keeps.
 #[derive(Debug, Drop)]
 pub enum Error {
     Message(String),

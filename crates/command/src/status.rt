@@ -5,8 +5,8 @@ ghost use Rattle.command.specs.Endings.{status_number};
 
 use std::process::ExitCode;
 
-/// How a program ends. Failure is an error, or a difference where a program compares; trouble is a wrong command line, or
-/// where a program compares, that it could not.
+/// How a program ends. Failure: an error, or a difference where a program compares. Trouble: a wrong command line, or a
+/// comparison that could not be made.
 #[derive(Clone, Copy, Debug, PartialEq, Eq)]
 pub enum Status {
     Success,

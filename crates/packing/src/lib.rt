@@ -40,7 +40,7 @@ pub fn pack<F: Field>(
     ensures no_fewer_states { PackedStates F.field (λ packed other. packed ≤ other) }
     ensures same_packed_text { SamePackedText F.field (λ S T. (S.letters ≡ T.letters) × Alike F.field S T) }
 {
-    // These hold what the last two clauses state; nothing is done.
+    // These calls do nothing; their contracts are the last two clauses.
     packed_table_is_smallest::<F>();
     packed_text_is_canonical::<F>();
     let mut directory = Directory::open();

@@ -1,4 +1,4 @@
-//! What holds of every packed text, held by functions that do nothing else.
+//! Theorems on every packed text, each the contract of a function that does nothing else.
 ghost use Rattle.std.specs.Prelude.{◌≡◌, ◌≤◌};
 ghost use Rattle.series.specs.Comparing.{Alike};
 ghost use Rattle.packing.specs.Theorems.{PackedStates, SamePackedText};

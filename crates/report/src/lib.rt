@@ -41,7 +41,7 @@ pub fn report_over<F: Field>(first: &[u8], second: &[u8], out: &mut [u8]) -> usi
 {
     let mut shelf = zeros::<F, SHELF>();
     let mut work = zeros::<F, WORK>();
-    // These hold what the last two clauses state; nothing is done.
+    // These calls do nothing; their contracts are the last two clauses.
     q_where_alike::<F>();
     one_line::<F>();
     tell(&mut shelf, &mut work, first, second, out)

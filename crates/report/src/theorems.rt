@@ -1,4 +1,4 @@
-//! What holds of every report line, held by functions that do nothing else.
+//! Theorems on every report line, each the contract of a function that does nothing else.
 ghost use Rattle.report.specs.Reports.{OneLine, BeginsWhereAlike};
 
 use field::Field;

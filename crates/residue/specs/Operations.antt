@@ -17,18 +17,22 @@ module _ (p : ℕ) (pr : Prime p) where
   abbrev pub residue_of : ℕ → Below p
   residue_of n = record { n = n % p; below = mod-lt n positive }
 
+  -- zero and one
   abbrev pub residue_zero : Below p
   residue_zero = record { n = 0; below = positive }
 
   abbrev pub residue_one : Below p
   residue_one = record { n = 1; below = pr.low }
 
+  -- the sum
   abbrev pub sum_of : Below p → Below p → Below p
   sum_of x y = residue_of (x.n + y.n)
 
+  -- the residue whose sum with x is zero
   abbrev pub opposite_of : Below p → Below p
   opposite_of x = residue_of (p - x.n)
 
+  -- the product
   abbrev pub product_of : Below p → Below p → Below p
   product_of x y = residue_of (x.n * y.n)
 

@@ -122,7 +122,7 @@ where
     // Goes over the rows of the matrix, so that the products with a row can be vectorized.
     fn row_times_matrix(row: &[Residue<P>], matrix: &[Residue<P>], to: &mut [Residue<P>]) {
         let n = row.len();
-        // A longer row: the default method's loop.
+        // An override cannot call the default body, so its loop stands here again.
         if n > NARROW {
             for (j, x) in to.iter_mut().enumerate() {
                 *x = Self::dot(row, matrix, j, n);
@@ -141,7 +141,7 @@ where
     // before the end.
     fn subtract_rows(row: &mut [Residue<P>], rows: &[Residue<P>], pivots: &[usize]) {
         let n = row.len();
-        // Longer rows, or more of them: the default method's loop.
+        // As above, the loop of the default body.
         if n > NARROW || pivots.len() > NARROW {
             for (b, pivot) in pivots.iter().enumerate() {
                 let factor = row[*pivot];

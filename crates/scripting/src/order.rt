@@ -170,8 +170,8 @@ fn call_of_one(verb: Verb, line: &[u8]) -> Result<Call<Vec<u8>>, Reason>
     }
 }
 
-// The call of a verb that names places, and a code, a letter or a word, and no text. By how many numbers the verb has, since one
-// function of all calls would be twice as long as it should be; none of the others meets another verb.
+// The call of a verb that names places, and a code, a letter or a word, and no text. Verbs are grouped by how many numbers
+// they take.
 fn call(heap: Global, verb: Verb, line: &[u8]) -> Result<Call<Vec<u8>>, Reason>
     ensures read { IfOk result (λ a. (verb_of a ≡ verb) × Arguments a line.now) }
 {
@@ -198,7 +198,6 @@ pub fn read_line(heap: Global, line: &[u8]) -> Result<Option<Said<'_>>, Reason>
         return Ok(None);
     }
     let verb = Verb::try_from(first)?;
-    // An enum and its match: with a function for each verb, each would have to be told in the promise.
     match verb {
         Verb::Field => Ok(Some(Said::Order(Order::Field(field(rest)?)))),
         Verb::Open => {

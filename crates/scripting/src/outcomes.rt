@@ -29,7 +29,7 @@ impl fmt::Display for Shown<Verdict> {
     }
 }
 
-/// What an accepted call answers.
+/// What an accepted call returns.
 impl fmt::Display for Shown<Answer> {
     fn fmt<W: fmt::Write>(&self, f: &mut fmt::Formatter<W>) -> fmt::Result {
         match self.0 {
@@ -41,7 +41,7 @@ impl fmt::Display for Shown<Answer> {
     }
 }
 
-/// A refusal with its number, what it tells of a position, and the reason.
+/// A refusal with its number, its position if it has one, and the reason.
 impl fmt::Display for Shown<Refusal> {
     fn fmt<W: fmt::Write>(&self, f: &mut fmt::Formatter<W>) -> fmt::Result {
         let refusal = self.0;

@@ -11,7 +11,6 @@ pub fn before(bytes: &[u8], stop: u8) -> usize
 }
 
 /// How many spaces come first.
-// Not one with `before`: a test as a parameter would have to be told in both promises.
 fn spaces(bytes: &[u8]) -> usize
     ensures begins { Begins 32 bytes.now result }
 {

@@ -12,7 +12,7 @@ use Rattle.series.specs.Tables.{Table, weight, pair}
 use Rattle.series.specs.Comparing.{Kept, Tried, Alike, LeastDifference}
 use Rattle.series.specs.Reducing.{Reduced}
 
--- an order with the laws of a word order is this one
+-- an order that a test decides, and that has the laws of a word order, is this one
 abbrev pub OnlyOrder : (Word → Word → Type 0) → Type 0
 OnlyOrder This = (before : Word → Word → Bool) → WordOrder (λ u v. IsTrue (before u v)) → (u v : Word) → IsTrue (before u v) ↔ This u v
 

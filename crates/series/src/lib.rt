@@ -110,7 +110,7 @@ pub fn reduced_form_exists<F: Field>()
     ensures exists { ReducedExists F.field (λ T. T.letters) }
 {}
 
-/// Shortlex has the laws of a word order, and no other order has them.
+/// Shortlex has the laws of a word order, and no other order that a test decides has them.
 pub fn shortlex_is_a_word_order()
     ensures laws { WordOrder ◌≺◌ }
     ensures no_other { OnlyOrder ◌≺◌ }

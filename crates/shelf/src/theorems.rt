@@ -1,4 +1,4 @@
-//! What holds of the calls over every lawful field, held by functions that do nothing else.
+//! A theorem on the calls over every lawful field, the contract of a function with an empty body.
 ghost use Rattle.shelf.specs.Clearing.{ClearsAsCalled};
 
 use field::Field;

@@ -1,4 +1,4 @@
--- The length of a table's text, and what the text tells of the table. Assumes nothing.
+-- The length of a table's text, and what the text states of the table. Assumes nothing.
 use Rattle.std.proofs.Common.{◌≡◌, ℕ, zero, suc, ◌+◌, ◌*◌, ◌^◌, ◌<◌, ◌≤◌, List, [], ◌∷◌, ◌++◌, map, length, get_or, drop, sym, refl, ap, ◌∙◌, mul_assoc, arith}
 use Rattle.std.specs.List.{range_with_len, flat_map}
 use Rattle.std.proofs.lemmas.List.{length-append}
@@ -106,7 +106,7 @@ module _ {V : Type 0} (K : FiniteField V) where
           end = codes_agree n S.end T.end last.0;
         }
 
-  -- the first line tells the sizes
+  -- the first line gives the sizes
   pub first_told : (n k m l : ℕ) (x y : List ℕ) → Limits n k → Limits m l → line 84 (n ∷ k ∷ K.q ∷ []) ++ x ≡ line 84 (m ∷ l ∷ K.q ∷ []) ++ y → (n ≡ m) × (k ≡ l) × (x ≡ y)
   first_told n k m l x y s t e =
       let field : K.q < 10 ^ 10 = omega (arith, K.q_high) in

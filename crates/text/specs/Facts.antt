@@ -17,7 +17,7 @@ module _ {V : Type 0} (K : FiniteField V) where
   abbrev pub ToldApart : Type 0
   ToldApart = (S T : Table V) → Sized S → Sized T → text_of K S ≡ text_of K T → SameTable S T
 
-  -- the text of a table is refused for nothing, and a text that is refused has one fault
+  -- the text of a table is not refused, and a text that is refused has one fault
   abbrev pub Decided : Type 0
   Decided = (text : List ℕ) → ((T : Table V) (f : LoadFault) → Sized T → text ≡ text_of K T → Refuses K text f → ⊥) × ((f g : LoadFault) → Refuses K text f → Refuses K text g → f ≡ g)
 

@@ -13,9 +13,11 @@ module _ {F : Type 0} where
   abbrev pub width : Pair F → ℕ
   width both = both.left.shape.states + both.right.shape.states
 
+  -- the table whose rows are the first part of a pair row
   abbrev pub left_table : {V : Type 0} → FiniteField V → (F → V) → Pair F → Table V
   left_table K value both = table_of K value both.left
 
+  -- the table whose rows are the second part
   abbrev pub right_table : {V : Type 0} → FiniteField V → (F → V) → Pair F → Table V
   right_table K value both = table_of K value both.right
 

@@ -144,10 +144,8 @@ impl OverField for Weighing<'_> {
 fn work(rt: &HostRuntime, options: Options) -> Result<Status, Error> {
     let name = name_or(options.files.as_slice(), 0, "table");
     if name == "-" {
-        return Err(Error::new(
-            rt.alloc(),
-            "FILE cannot be -: words are read from standard input",
-        ));
+        eprintln!(rt; "weigh: FILE cannot be -: words are read from standard input")?;
+        return Ok(Status::Trouble);
     }
     let text = read_file(rt, name, TEXT_LIMIT).map_err(|e| read_error(rt.alloc(), name, e))?;
     let text = text.as_slice();

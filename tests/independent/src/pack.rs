@@ -5,7 +5,7 @@ use crate::field::{Bits, Bytes, Fermat, Field};
 use crate::reduce::reduced;
 use crate::text::{Fault, read, write};
 
-/// A packed text, and what is told of it.
+/// A packed text, and what is reported of it.
 #[derive(Clone, PartialEq, Eq, Debug)]
 pub struct Packed {
     /// The text of the reduced form.

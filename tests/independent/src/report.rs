@@ -1,4 +1,4 @@
-//! The line that tells how two texts compare.
+//! The line that reports how two texts compare.
 
 use crate::compare::{Verdict, compare};
 use crate::field::{Fermat, Field};
@@ -35,7 +35,7 @@ fn verdict_line(verdict: &Verdict) -> String {
     }
 }
 
-/// Writes the line over GF(65537) at the front of the output and answers how many bytes it has, or 0 where the output has
+/// Writes the line over GF(65537) at the front of the output and returns how many bytes it has, or 0 where the output has
 /// too few.
 pub fn report(first: &[u8], second: &[u8], output: &mut [u8]) -> usize {
     if output.len() < LONGEST_LINE {

@@ -1,4 +1,4 @@
-//! Scripts: lists of calls as lines, and the outcomes told as lines.
+//! Scripts: lists of calls as lines, and the outcomes as lines.
 
 use std::borrow::Cow;
 use std::collections::HashMap;
@@ -183,7 +183,7 @@ impl<'a, Files: Fn(&str) -> Option<Vec<u8>>> Parser<'a, Files> {
 }
 
 impl<'a> Script<'a> {
-    /// Reads a script. A name that no text before it has is that of a file, which `files` answers.
+    /// Reads a script. A name that no text before it has is that of a file, which `files` returns.
     pub fn parse(script: &'a [u8], files: impl Fn(&str) -> Option<Vec<u8>>) -> Result<Self, Vec<Mistake>> {
         let mut parser = Parser { rest: script, line: 1, texts: HashMap::new(), files };
         let (mut steps, mut mistakes) = (Vec::new(), Vec::new());
@@ -198,7 +198,7 @@ impl<'a> Script<'a> {
         if mistakes.is_empty() { Ok(Self { steps }) } else { Err(mistakes) }
     }
 
-    /// Performs the script, and answers what is told of it.
+    /// Performs the script, and returns what is printed of it.
     pub fn perform(&self) -> Vec<u8> {
         let mut field = Offered::Fermat;
         let mut shelf = field.open(SHELF_SIZE);

@@ -106,7 +106,7 @@ impl Lent {
     pub const ALL: Self = Self { work: WORK_SIZE as u64, output: LONGEST_TEXT as u64 };
 }
 
-/// What an accepted call answers.
+/// What an accepted call returns.
 #[derive(Clone, PartialEq, Eq, Debug)]
 pub enum Answer {
     /// Nothing.

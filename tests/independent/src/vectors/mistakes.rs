@@ -1,4 +1,4 @@
-//! Scripts with mistakes, which are told and not performed.
+//! Scripts with mistakes, which are reported and not performed.
 
 use crate::prng::Random;
 

@@ -59,7 +59,7 @@ impl Writing {
         self.bytes.push(b'\n');
     }
 
-    /// Gives a text, and answers its name.
+    /// Gives a text, and returns its name.
     fn text(&mut self, text: &[u8]) -> String {
         self.texts += 1;
         let name = format!("t{}", self.texts);
