@@ -56,8 +56,8 @@ impl Directory {
         }
     }
 
-    // Makes a requested call, with as much of work memory and output as it is given.
-    fn take_up<F: Field>(
+    /// Makes a requested call, with as much of work memory and output as it is given.
+    pub fn take_up<F: Field>(
         &mut self,
         shelf: &mut [F],
         work: &mut [F],
