@@ -4,7 +4,7 @@ use Rattle.command.specs.declared.arguments.Arguments.{Arguments}
 use Rattle.command.specs.declared.arguments.Arguments.TheVariants.{Help, Version, Run}
 use Rattle.command.specs.declared.arguments.Options.{Options}
 use Rattle.command.specs.declared.status.Status.{Status}
-use Rattle.command.specs.declared.status.Status.TheVariants.{Success, Failure, Trouble}
+use Rattle.command.specs.declared.status.Status.TheVariants.{Failure, Trouble}
 
 -- it names so many files at most
 abbrev pub NamesAtMost : ℕ → Arguments → Type 0

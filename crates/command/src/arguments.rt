@@ -155,6 +155,14 @@ mod tests {
         Ok(all.into_iter())
     }
 
+    // The message about a wrong command line.
+    fn message(heap: Global, words: &[&str], accepted: Accepted) -> Result<String, Error> {
+        match arguments_in(heap, line(heap, words)?, accepted) {
+            Ok(_) => Ok(String::from_str(heap, "no error")?),
+            Err(e) => Ok(e.to_string(heap)?),
+        }
+    }
+
     const PACK: Accepted = Accepted {
         files: 2,
         compares: false,
@@ -254,10 +262,7 @@ mod tests {
             (&["pack", "a", "b", "c"], "too many arguments (see --help)"),
         ];
         for (words, why) in wrong {
-            match arguments_in(heap, line(heap, words)?, PACK) {
-                Ok(_) => assert!(rt; false, "no error: {why}"),
-                Err(e) => assert_eq!(rt; e.to_string(heap)?.as_str(), why),
-            }
+            assert_eq!(rt; message(heap, words, PACK)?.as_str(), why);
         }
         Ok(())
     }
@@ -273,10 +278,7 @@ mod tests {
             ),
         ];
         for (words, why) in wrong {
-            match arguments_in(heap, line(heap, words)?, VERDICT) {
-                Ok(_) => assert!(rt; false, "no error: {why}"),
-                Err(e) => assert_eq!(rt; e.to_string(heap)?.as_str(), why),
-            }
+            assert_eq!(rt; message(heap, words, VERDICT)?.as_str(), why);
         }
         Ok(())
     }

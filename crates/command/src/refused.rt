@@ -14,16 +14,26 @@ pub struct Refused<'a> {
     pub field: Option<FieldChoice>,
 }
 
-/// The line of a text, from 1, without its newline.
-pub fn line_at(text: &[u8], line: usize) -> &[u8] {
+/// What follows so many lines of a text.
+pub fn skip_lines(text: &[u8], count: usize) -> &[u8] {
     let mut rest = text;
-    for _ in 1..line {
-        let newline = rest.iter().position(|b| *b == b'\n').unwrap_or(rest.len());
-        rest = rest.get(newline..).unwrap_or(&[]);
+    for _ in 0..count {
+        let line = first_line(rest).len();
+        rest = rest.get(line..).unwrap_or(&[]);
         rest = rest.get(1..).unwrap_or(&[]);
     }
-    let end = rest.iter().position(|b| *b == b'\n').unwrap_or(rest.len());
-    rest.get(..end).unwrap_or(rest)
+    rest
+}
+
+/// The first line of a text, without its newline.
+pub fn first_line(text: &[u8]) -> &[u8] {
+    let newline = text.iter().position(|b| *b == b'\n');
+    newline.and_then(|i| text.get(..i)).unwrap_or(text)
+}
+
+// The line of a text, from 1.
+fn line_at(text: &[u8], line: usize) -> &[u8] {
+    first_line(skip_lines(text, line.saturating_sub(1)))
 }
 
 // The number in the 11 columns of a line that begin at this one, from 1.

@@ -7,7 +7,7 @@ use command::error::Error;
 use command::field_choice::FieldChoice;
 use command::files::{TEXT_LIMIT, read_error, read_file, read_input, shown, write_error};
 use command::program::Program;
-use command::refused::line_at;
+use command::refused::{first_line, skip_lines};
 use command::status::Status;
 use scripting::mistake::{Mistake, Reason};
 use scripting::performing::{Failure, run};
@@ -111,23 +111,22 @@ impl fmt::Display for Text<'_> {
     }
 }
 
-// A mistake with the file and the line of the script that it is in, and the file that the line loads, if that cannot be read.
+// A mistake, with the file of the script, the text of its line, and the file that the line loads, if that cannot be read.
 #[derive(Clone, Copy)]
 struct Shown<'a> {
     name: &'a str,
-    script: &'a [u8],
-    unreadable: &'a [Unreadable],
+    text: &'a [u8],
+    unreadable: Option<&'a Unreadable>,
     mistake: Mistake,
 }
 
 impl Shown<'_> {
     // What the line has to do with the reason.
     fn write_detail<W: fmt::Write>(&self, f: &mut fmt::Formatter<W>) -> fmt::Result {
-        let Mistake { line, reason } = self.mistake;
-        let Some((first, rest)) = next_word(line_at(self.script, line)) else {
+        let Some((first, rest)) = next_word(self.text) else {
             return Ok(());
         };
-        match reason {
+        match self.mistake.reason {
             Reason::NoCall => write!(f, " \"{}\"", Text(first)),
             Reason::FieldNotOffered => {
                 let (word, _) = next_word(rest).unwrap_or((&[], &[]));
@@ -148,11 +147,36 @@ impl fmt::Display for Shown<'_> {
     fn fmt<W: fmt::Write>(&self, f: &mut fmt::Formatter<W>) -> fmt::Result {
         let Mistake { line, reason } = self.mistake;
         write!(f, "{}:{line}: ", self.name)?;
-        if let Some(found) = self.unreadable.iter().find(|found| found.line == line) {
+        if let Some(found) = self.unreadable {
             return write!(f, "cannot read {}: {}", found.name, found.wrong);
         }
         write!(f, "{reason}")?;
         self.write_detail(f)
+    }
+}
+
+// Prints the mistakes of a script. They are in the order of their lines, and so are the files that cannot be read.
+fn print_mistakes(
+    rt: &HostRuntime,
+    name: &str,
+    script: &[u8],
+    unreadable: &[Unreadable],
+    mistakes: &[Mistake],
+) {
+    let mut rest = script;
+    let mut passed = 1;
+    let mut files = unreadable.iter().peekable();
+    for mistake in mistakes {
+        rest = skip_lines(rest, mistake.line.saturating_sub(passed));
+        passed = mistake.line;
+        let shown = Shown {
+            name,
+            text: first_line(rest),
+            unreadable: files.next_if(|file| file.line == mistake.line),
+            mistake: *mistake,
+        };
+        // The exit status shows the mistakes where standard error cannot be written.
+        let _ = eprintln!(rt; "{}: {shown}", SCRIPT.name);
     }
 }
 
@@ -179,15 +203,13 @@ fn work(rt: &HostRuntime, options: Options) -> Result<Status, Error> {
             Ok(Status::Success)
         }
         Err(Failure::Mistaken(mistakes)) => {
-            for mistake in mistakes.iter() {
-                let shown = Shown {
-                    name: shown(name),
-                    script: bytes.as_slice(),
-                    unreadable: unreadable.as_slice(),
-                    mistake: *mistake,
-                };
-                let _ = eprintln!(rt; "{}: {shown}", SCRIPT.name);
-            }
+            print_mistakes(
+                rt,
+                shown(name),
+                bytes.as_slice(),
+                unreadable.as_slice(),
+                mistakes.as_slice(),
+            );
             Ok(Status::Failure)
         }
         Err(Failure::NoMemory(e)) => Err(Error::Memory(e)),

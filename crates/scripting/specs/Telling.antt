@@ -1,5 +1,5 @@
 -- Mistakes in words. Assumes nothing.
-use Rattle.std.specs.Prelude.{ℕ, List, [], ◌∷◌, ◌++◌, codes}
+use Rattle.std.specs.Prelude.{ℕ, List, ◌++◌, codes}
 use Rattle.std.specs.Fmt.{decimal}
 use Rattle.scripting.specs.declared.mistake.Mistake.{Mistake}
 use Rattle.scripting.specs.declared.mistake.Reason.{Reason}
