@@ -3,23 +3,27 @@
 
 #[cfg(test)]
 mod tests {
+    use scripting::mistake::Mistake;
     use scripting::performing::{Failure, run_script};
-    use std::alloc::Global;
+    use std::alloc::{AllocError, Global};
+
+    // A line for each mistake.
+    fn lines_of(heap: Global, mistakes: &[Mistake]) -> Result<String, AllocError> {
+        let mut text = String::new(heap);
+        for mistake in mistakes {
+            let line = format!(in heap; "{mistake}\n")?;
+            text.push_str(line.as_str())?;
+        }
+        Ok(text)
+    }
 
     // The mistakes of a script, a line each; nothing where it is performed.
     fn mistakes(heap: Global, script: &str) -> Result<String, Failure> {
-        let mut text = String::new(heap);
         match run_script(heap, script.as_bytes()) {
-            Ok(_) => {}
-            Err(Failure::Mistaken(mistakes)) => {
-                for mistake in mistakes.iter() {
-                    let line = format!(in heap; "{mistake}\n")?;
-                    text.push_str(line.as_str())?;
-                }
-            }
-            Err(e) => return Err(e),
+            Ok(_) => Ok(String::new(heap)),
+            Err(Failure::Mistaken(found)) => Ok(lines_of(heap, found.as_slice())?),
+            Err(e) => Err(e),
         }
-        Ok(text)
     }
 
     // One line for each reason but the lack of memory, which no line draws.
