@@ -6,5 +6,6 @@ pub mod Arguments
 pub mod Mistakes
 pub mod Making
 pub mod Telling
+pub mod Showing
 pub mod Reading
 pub mod Judging
