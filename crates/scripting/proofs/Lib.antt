@@ -1,3 +1,5 @@
 pub mod Verbs
 pub mod Onward
 pub mod Silence
+pub mod Steps
+pub mod Made

@@ -4,8 +4,8 @@ pub mod Naming
 pub mod Calling
 pub mod Arguments
 pub mod Mistakes
-pub mod Making
 pub mod Telling
 pub mod Showing
+pub mod Performing
 pub mod Reading
 pub mod Judging
