@@ -1,5 +1,4 @@
 pub mod Verbs
 pub mod Onward
-pub mod Silence
 pub mod Steps
 pub mod Made

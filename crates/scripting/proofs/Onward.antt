@@ -1,5 +1,5 @@
 -- Reading goes on from line to line. Assumes nothing.
-use Rattle.std.proofs.Common.{◌≡◌, ◌≢◌, ℕ, ◌+◌, ◌-◌, ◌≤◌, ◌<◌, ◌==◌, List, [], ◌++◌, length, take, drop, count_by, Option, Some, None, false, Result, Ok, Err, IfOk, OnErr, IsErr, MatchResult, sym, ap, ◌∙◌, subst, ⊎_elim, append-nil, arith, length-append, length-drop}
+use Rattle.std.proofs.Common.{◌≡◌, ◌≢◌, ℕ, ◌+◌, ◌-◌, ◌≤◌, ◌<◌, ◌==◌, List, [], ◌++◌, length, take, drop, count_by, Option, Some, None, false, Result, Ok, Err, OnErr, MatchResult, sym, ap, ◌∙◌, subst, ⊎_elim, append-nil, arith, length-append, length-drop}
 use Rattle.std.specs.BTreeMap.{BTreeMap, Updates}
 use Rattle.std.specs.Borrow.{Bor}
 use Rattle.std.specs.Cmp.Lexicographic.{slice_cmp}
@@ -11,7 +11,8 @@ use Rattle.std.proofs.lemmas.Bool.{cases_lt, false_from_ne_true}
 use Rattle.std.proofs.lemmas.List.{drop-drop, take-append-drop}
 use Rattle.std.proofs.lemmas.Map.Text.{is_eq-slice_cmp}
 use Rattle.std.proofs.lemmas.Slice.Eq.{bytes_eq-Decides}
-use Rattle.scripting.specs.Arguments.{Says, Silent}
+use Rattle.scripting.specs.Arguments.{Says}
+use Rattle.scripting.specs.Refusing.{Wrong}
 use Rattle.scripting.specs.Reading.{Texts, texts_in, StandsFor, FirstLine, GoesOn, Comes, Fails, number_of, entered, Reached, read, failed, refused}
 use Rattle.scripting.specs.declared.mistake.Reason.{Reason}
 use Rattle.scripting.specs.declared.order.Said.{Said}
@@ -63,15 +64,15 @@ numbered script front bytes whole =
 
 -- one line more is read
 pub onward : {script bytes after rest : List ℕ} {texts new : Texts} {lines : List Line} (n : ℕ) (line : List ℕ) (said : Result (Option Said) Reason) (entry : Result (Option Entry) Reason)
-    → n ≡ number_of script bytes → Reached script texts bytes lines → FirstLine bytes line after → IfOk said (λ s. Says line s) → OnErr said (Silent line → ⊥)
+    → n ≡ number_of script bytes → Reached script texts bytes lines → FirstLine bytes line after → MatchResult said (λ s. Says line s) (λ r. Wrong line r)
     → MatchResult said (λ s. GoesOn s after rest) (λ _. rest ≡ after)
-    → MatchResult said (λ s. MatchResult entry (λ e. Comes texts after s new e) (λ r. Fails texts after s r)) (λ _. IsErr entry)
+    → MatchResult said (λ s. MatchResult entry (λ e. Comes texts after s new e) (λ r. Fails texts after s r)) (λ r. entry ≡ Err r)
     → OnErr entry (new ≡ texts)
     → Reached script new rest (lines ++ entered n entry)
-onward {script} {bytes} {after} {rest} {texts} {new} {lines} n line (Ok s) (Ok e) is reached first says spoken on comes kept =
+onward {script} {bytes} {after} {rest} {texts} {new} {lines} n line (Ok s) (Ok e) is reached first says on comes kept =
     subst (λ m. Reached script new rest (lines ++ entered m (Ok e))) (sym is) (read line s e reached first says on comes)
-onward {script} {bytes} {after} {rest} {texts} {new} {lines} n line (Ok s) (Err reason) is reached first says spoken on comes kept =
+onward {script} {bytes} {after} {rest} {texts} {new} {lines} n line (Ok s) (Err reason) is reached first says on comes kept =
     subst (λ t. Reached script t rest (lines ++ entered n (Err reason))) (sym kept) (subst (λ m. Reached script texts rest (lines ++ entered m (Err reason))) (sym is) (failed line s reason reached first says on comes))
-onward {script} {bytes} {after} {rest} {texts} {new} {lines} n line (Err r) (Ok e) is reached first says spoken on comes kept = absurd (cc)
-onward {script} {bytes} {after} {rest} {texts} {new} {lines} n line (Err r) (Err reason) is reached first says spoken on comes kept =
-    subst (λ b. Reached script new b (lines ++ entered n (Err reason))) (sym on) (subst (λ t. Reached script t after (lines ++ entered n (Err reason))) (sym kept) (subst (λ m. Reached script texts after (lines ++ entered m (Err reason))) (sym is) (refused line reason reached first spoken)))
+onward {script} {bytes} {after} {rest} {texts} {new} {lines} n line (Err r) (Ok e) is reached first says on comes kept = absurd (cc)
+onward {script} {bytes} {after} {rest} {texts} {new} {lines} n line (Err r) (Err reason) is reached first says on comes kept =
+    subst (λ b. Reached script new b (lines ++ entered n (Err reason))) (sym on) (subst (λ t. Reached script t after (lines ++ entered n (Err reason))) (sym kept) (subst (λ e. Reached script texts after (lines ++ entered n e)) (sym comes) (subst (λ m. Reached script texts after (lines ++ entered m (Err r))) (sym is) (refused line r reached first says))))

@@ -1,5 +1,5 @@
 -- The verb that a word names, found among all. Assumes nothing.
-use Rattle.std.proofs.Common.{◌≡◌, ◌≢◌, ℕ, ◌<◌, List, [], ◌∷◌, length, subst, arith}
+use Rattle.std.proofs.Common.{◌≡◌, ◌≢◌, ℕ, ◌<◌, List, [], ◌∷◌, length, refl, subst, arith}
 use Rattle.std.specs.Prelude.{Option, Some, None, MatchOption, MatchResult}
 use Rattle.std.specs.Borrow.{Bor}
 use Rattle.std.specs.List.{AllWithin, HoldsAt}
@@ -35,6 +35,6 @@ each_verb Q a v = elim v as Q [
 -- the verb found, or none
 pub named : (word : List ℕ) (all : List Verb) (r : Option (Bor Verb)) (why : Reason) → all ≡ verbs
     → MatchOption r (AllWithin (λ v. name_of v ≢ word) all 0 (length all)) (λ x. (name_of x.now ≡ word) × (i : ℕ) × (i < length all) × HoldsAt (λ y. y ≡ x.now) all i × AllWithin (λ v. name_of v ≢ word) all 0 i)
-    → MatchResult (ok_or (option_copied r) why) (λ v. name_of v ≡ word) (λ _. (v : Verb) → name_of v ≢ word)
-named word all None why e a = each_verb (λ v. name_of v ≢ word) (subst (λ l. AllWithin (λ v. name_of v ≢ word) l 0 (length l)) e a)
+    → MatchResult (ok_or (option_copied r) why) (λ v. name_of v ≡ word) (λ r. (r ≡ why) × ((v : Verb) → name_of v ≢ word))
+named word all None why e a = (refl, each_verb (λ v. name_of v ≢ word) (subst (λ l. AllWithin (λ v. name_of v ≢ word) l 0 (length l)) e a))
 named word all (Some x) why e f = f.0

@@ -41,12 +41,29 @@ Opened rest n = (Blank rest × (n ≡ 12544)) ⊎ (Numbers rest (n ∷ []) × (n
 abbrev pub Named : List ℕ → List ℕ → ℕ → Type 0
 Named rest name n = (after : List ℕ) × NextWord rest name after × Numbers after (n ∷ [])
 
--- the line says to do this
-abbrev pub Orders : List ℕ → Order → Type 0
-Orders line (orders.Field offered) = (rest : List ℕ) × Begun line verbs.Field rest × Numbers rest (q_of offered ∷ [])
-Orders line (orders.Open n) = (rest : List ℕ) × Begun line verbs.Open rest × Opened rest n
-Orders line (orders.Lend given) = (rest : List ℕ) × Begun line verbs.Lend rest × Numbers rest (given.work ∷ given.output ∷ [])
-Orders line (orders.Call call) = (rest : List ℕ) × Begun line (verb_of call) rest × Arguments call rest
+-- the verb that says this
+abbrev pub verb_by : Order → Verb
+verb_by (orders.Field offered) = verbs.Field
+verb_by (orders.Open n) = verbs.Open
+verb_by (orders.Lend given) = verbs.Lend
+verb_by (orders.Call call) = verb_of call
+
+abbrev pub verb_in : Said → Verb
+verb_in (saids.Text name size) = verbs.Text
+verb_in (saids.Load name to) = verbs.Load
+verb_in (saids.Order order) = verb_by order
+
+-- the rest of the line, behind the verb, is what this takes
+abbrev pub TakesOrder : Order → List ℕ → Type 0
+TakesOrder (orders.Field offered) rest = Numbers rest (q_of offered ∷ [])
+TakesOrder (orders.Open n) rest = Opened rest n
+TakesOrder (orders.Lend given) rest = Numbers rest (given.work ∷ given.output ∷ [])
+TakesOrder (orders.Call call) rest = Arguments call rest
+
+abbrev pub Takes : Said → List ℕ → Type 0
+Takes (saids.Text name size) rest = Named rest name.now size
+Takes (saids.Load name to) rest = Named rest name.now to
+Takes (saids.Order order) rest = TakesOrder order rest
 
 -- the line is passed over: it is blank, or a comment
 abbrev pub Silent : List ℕ → Type 0
@@ -55,6 +72,4 @@ Silent line = Blank line ⊎ ((word : List ℕ) × (rest : List ℕ) × NextWord
 -- what the line says, if anything
 abbrev pub Says : List ℕ → Option Said → Type 0
 Says line None = Silent line
-Says line (Some (saids.Text name size)) = (rest : List ℕ) × Begun line verbs.Text rest × Named rest name.now size
-Says line (Some (saids.Load name to)) = (rest : List ℕ) × Begun line verbs.Load rest × Named rest name.now to
-Says line (Some (saids.Order order)) = Orders line order
+Says line (Some said) = (rest : List ℕ) × Begun line (verb_in said) rest × Takes said rest

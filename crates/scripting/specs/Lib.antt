@@ -3,6 +3,7 @@ pub mod Numerals
 pub mod Naming
 pub mod Calling
 pub mod Arguments
+pub mod Refusing
 pub mod Mistakes
 pub mod Telling
 pub mod Showing

@@ -10,7 +10,8 @@ use Rattle.std.specs.Str.{IsUtf8}
 use Rattle.std.specs.declared.string.String.{String}
 use Rattle.book.specs.declared.call.Call.TheVariants as calls
 use Rattle.scripting.specs.Splitting.{First, Later, Block}
-use Rattle.scripting.specs.Arguments.{Says, Silent}
+use Rattle.scripting.specs.Arguments.{Says}
+use Rattle.scripting.specs.Refusing.{Wrong}
 use Rattle.scripting.specs.declared.mistake.Reason.{Reason}
 use Rattle.scripting.specs.declared.mistake.Reason.TheVariants.{TextCutShort, TextNotEnded, FileUnreadable, NoMemory}
 use Rattle.scripting.specs.declared.order.Order.TheVariants as orders
@@ -98,8 +99,8 @@ pub data Reached (script : List ℕ) : Texts → List ℕ → List Line → Type
   read : {texts new : Texts} {bytes after rest : List ℕ} {lines : List Line} (line : List ℕ) (said : Option Said) (entry : Option Entry) → Reached script texts bytes lines → FirstLine bytes line after → Says line said → GoesOn said after rest → Comes texts after said new entry → Reached script new rest (lines ++ entered (number_of script bytes) (Ok entry))
   -- what the next line says does not come about
   failed : {texts : Texts} {bytes after rest : List ℕ} {lines : List Line} (line : List ℕ) (said : Option Said) (reason : Reason) → Reached script texts bytes lines → FirstLine bytes line after → Says line said → GoesOn said after rest → Fails texts after said reason → Reached script texts rest (lines ++ entered (number_of script bytes) (Err reason))
-  -- the next line is refused, but no blank line and no comment: that no other right line is refused is not stated
-  refused : {texts : Texts} {bytes after : List ℕ} {lines : List Line} (line : List ℕ) (reason : Reason) → Reached script texts bytes lines → FirstLine bytes line after → (Silent line → ⊥) → Reached script texts after (lines ++ entered (number_of script bytes) (Err reason))
+  -- the next line is wrong, for this reason
+  refused : {texts : Texts} {bytes after : List ℕ} {lines : List Line} (line : List ℕ) (reason : Reason) → Reached script texts bytes lines → FirstLine bytes line after → Wrong line reason → Reached script texts after (lines ++ entered (number_of script bytes) (Err reason))
 
 -- the script is read to its end as these lines
 abbrev pub ReadAs : List ℕ → List Line → Type 0

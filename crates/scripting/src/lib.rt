@@ -1,7 +1,6 @@
 //! Scripts of calls on a shelf: a text with a call to a line is read whole, then performed, and each outcome is shown.
 #![tactic(auto)]
 
-pub mod decimal;
 pub mod mistake;
 pub mod order;
 pub mod outcomes;

@@ -1,5 +1,5 @@
 //! A whole script, read line by line.
-ghost use Rattle.std.specs.Prelude.{◌≡◌, ◌<◌, ◌≤◌, ◌++◌, length, take, IfOk, OnOk, OnErr, IsErr, MatchResult};
+ghost use Rattle.std.specs.Prelude.{◌≡◌, ◌<◌, ◌≤◌, ◌++◌, length, take, IfOk, OnOk, OnErr, Err, MatchResult};
 ghost use Rattle.std.specs.Option.{option_map};
 ghost use Rattle.scripting.specs.Splitting.{First, Later, Block};
 ghost use Rattle.scripting.specs.Reading.{ReadAs, FirstLine, GoesOn, Loads, Comes, Fails, NoBlock, NoLoad, texts_in, entered};
@@ -80,7 +80,7 @@ fn entry_of<'a>(
     said: Result<Option<Said<'a>>, Reason>,
     after: &'a [u8],
 ) -> Result<Option<Entry>, Reason>
-    ensures comes { MatchResult said.entry (λ s. MatchResult result (λ e. Comes (texts_in texts.old) after.now s (texts_in texts.new) e) (λ r. Fails (texts_in texts.old) after.now s r)) (λ _. IsErr result) }
+    ensures comes { MatchResult said.entry (λ s. MatchResult result (λ e. Comes (texts_in texts.old) after.now s (texts_in texts.new) e) (λ r. Fails (texts_in texts.old) after.now s r)) (λ r. result ≡ Err r) }
     ensures kept { OnErr result (texts_in texts.new ≡ texts_in texts.old) }
 {
     match said? {
@@ -125,7 +125,6 @@ fn enter(
 }
 
 /// Reads a script: its lines by their numbers, each load with the text that was given last under its name.
-// That no right line is refused is stated of blank lines and comments alone; tests show it of the others.
 pub fn read(heap: Global, script: &[u8]) -> Result<Script, AllocError>
     ensures read { IfOk result (λ s. ReadAs script.now s.lines.items) }
 {

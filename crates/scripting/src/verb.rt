@@ -2,6 +2,7 @@
 ghost use Rattle.std.specs.Prelude.{◌≡◌, MatchResult, ◌≢◌, Some};
 ghost use Rattle.scripting.specs.Naming.{name_of};
 ghost use Rattle.scripting.specs.Calling.{verb_of};
+ghost use Rattle.scripting.specs.declared.mistake.Reason.TheVariants.{NoCall};
 ghost use Rattle.scripting.specs.declared.verb.Verb.{Verb};
 
 use crate::mistake::Reason;
@@ -84,7 +85,7 @@ impl fmt::Display for Verb {
 impl TryFrom<&[u8]> for Verb {
     type Error = Reason;
 
-    ghost try_from_gives = { λ word r. MatchResult r (λ v. name_of v ≡ word.now) (λ _. (v : Verb) → name_of v ≢ word.now) };
+    ghost try_from_gives = { λ word r. MatchResult r (λ v. name_of v ≡ word.now) (λ why. (why ≡ NoCall) × ((v : Verb) → name_of v ≢ word.now)) };
 
     fn try_from(word: &[u8]) -> Result<Verb, Reason> {
         let found = Verb::ALL.iter().find(|verb| verb.name().as_bytes() == word);

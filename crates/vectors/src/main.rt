@@ -6,7 +6,7 @@ ghost use Rattle.std.specs.Prelude.{◌<◌, length, IfOk, IfSome};
 
 use anyhow::Context;
 use report::{LONGEST, report};
-use scripting::decimal::number;
+use scripting::words::number;
 use scripting::performing::run_script;
 use scripting::words::before;
 use std::fs;

@@ -31,5 +31,5 @@ loop-rest-preserved c =
       front = i.front ++ front;
       whole = append_assoc i.front front next ∙ ap (λ bs. i.front ++ bs) split ∙ i.whole;
       counted = omega (arith, i.counted, number, sums);
-      reached = subst (λ ls. Reached script (texts_in c.entry_of-entry.new.texts) next ls) (sym c.in_ok-enter.ensures.entered) (onward c.loop-rest.number c.split_line.result.0.now c.read_line-said.result c.entry_of-entry.result (i.counted ∙ numbered script i.front rest i.whole) i.reached first c.read_line-said.ensures.says c.read_line-said.ensures.spoken c.behind-next.ensures.goes_on c.entry_of-entry.ensures.comes c.entry_of-entry.ensures.kept);
+      reached = subst (λ ls. Reached script (texts_in c.entry_of-entry.new.texts) next ls) (sym c.in_ok-enter.ensures.entered) (onward c.loop-rest.number c.split_line.result.0.now c.read_line-said.result c.entry_of-entry.result (i.counted ∙ numbered script i.front rest i.whole) i.reached first c.read_line-said.ensures.read c.behind-next.ensures.goes_on c.entry_of-entry.ensures.comes c.entry_of-entry.ensures.kept);
     }
