@@ -8,7 +8,7 @@ use Rattle.shelf.specs.Views.{state}
 use Rattle.book.specs.Running.{CarriesOut}
 use Rattle.book.specs.Outcomes.{Outcome}
 use Rattle.book.specs.declared.call.Request.{Request}
-use Rattle.scripting.specs.Performing.{Makes, MakesOnFresh, Fresh, Requests, shown_of, none, next}
+use Rattle.scripting.specs.Performing.{Makes, MakesOnFresh, Requests, shown_of, next}
 use Rattle.scripting.specs.declared.performing.Task.{Task}
 
 module _ {V : Type 0} (K : FiniteField V) {F : Type 0} (value : F → V) where

@@ -1,6 +1,5 @@
 -- A script is performed from line to line. Assumes nothing.
-use Rattle.std.proofs.Common.{◌≡◌, ◌≢◌, ℕ, ◌+◌, ◌<◌, ◌≤◌, List, [], ◌∷◌, ◌++◌, length, take, drop, get_or, Result, Ok, Err, OnOk, sym, subst, append_assoc, append-nil, drop-cons, add-one}
-use Rattle.std.proofs.Math.ListN.{drop_of_length-le}
+use Rattle.std.proofs.Common.{◌≡◌, ◌≢◌, ℕ, List, [], ◌∷◌, ◌++◌, Result, Ok, Err, OnOk, sym, subst, append_assoc, append-nil}
 use Rattle.command.specs.declared.field_choice.FieldChoice.{FieldChoice}
 use Rattle.scripting.specs.Mistakes.{wrong}
 use Rattle.scripting.specs.Performing.{Shows, Step, MakesOver, last, chooses, opens, lends, calls, mistaken}

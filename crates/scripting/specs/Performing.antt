@@ -1,9 +1,7 @@
 -- What a script's lines do on shelves, and what is shown of it. Assumes nothing.
-use Rattle.std.specs.Prelude.{◌≡◌, ◌≢◌, ℕ, List, [], ◌∷◌, ◌++◌, length, min, take, replicate, codes, Option, Vec, vec_items, Ok, Err}
-use Rattle.std.specs.declared.alloc.Global.{Global}
+use Rattle.std.specs.Prelude.{◌≡◌, ◌≢◌, ℕ, List, [], ◌∷◌, ◌++◌, length, min, take, replicate, codes, vec_items, Ok, Err}
 use Rattle.std.specs.Fmt.{decimal}
 use Rattle.field.specs.FiniteField.{FiniteField}
-use Rattle.field.specs.Below.{Below}
 use Rattle.residue.specs.Delivered.{bits, fermat}
 use Rattle.residue.specs.declared.Residue.{Residue}
 use Rattle.byte.specs.Bytes.{bytes}
@@ -14,7 +12,6 @@ use Rattle.book.specs.Shelves.{State, Opened}
 use Rattle.book.specs.Calls.{call_of, call_by}
 use Rattle.book.specs.Running.{CarriesOut}
 use Rattle.book.specs.Outcomes.{Outcome}
-use Rattle.book.specs.declared.call.Call.{Call}
 use Rattle.book.specs.declared.call.Request.{Request}
 use Rattle.book.specs.declared.outcome.Answer.TheVariants.{Done, Code, Told, Count}
 use Rattle.scripting.specs.Naming.{name_of}
@@ -22,9 +19,7 @@ use Rattle.scripting.specs.Calling.{verb_of}
 use Rattle.scripting.specs.Showing.{outcome_text}
 use Rattle.scripting.specs.Mistakes.{wrong}
 use Rattle.scripting.specs.declared.order.Given.{Given}
-use Rattle.scripting.specs.declared.order.Order.{Order}
 use Rattle.scripting.specs.declared.order.Order.TheVariants as orders
-use Rattle.scripting.specs.declared.reading.Entry.{Entry}
 use Rattle.scripting.specs.declared.reading.Entry.TheVariants as entries
 use Rattle.scripting.specs.declared.reading.Line.{Line}
 use Rattle.scripting.specs.declared.performing.Opening.{Opening}

@@ -1,5 +1,5 @@
 -- Outcomes of calls in words, in ASCII. Assumes nothing.
-use Rattle.std.specs.Prelude.{ℕ, List, [], ◌∷◌, ◌++◌, codes, take, flat_map, Ok, Err}
+use Rattle.std.specs.Prelude.{ℕ, List, [], ◌∷◌, ◌++◌, codes, flat_map, Ok, Err}
 use Rattle.std.specs.Fmt.{decimal}
 use Rattle.faults.specs.Refusals.{load_position}
 use Rattle.book.specs.Outcomes.{Outcome}

@@ -55,7 +55,10 @@ impl fmt::Display for Shown<Verdict> {
             Kind::Alike => write!(f, "alike, {tried} tried, {kept} kept"),
             Kind::Differs => {
                 let word = Word(reported_word(&self.0));
-                write!(f, "differs at {word}, weighs {first} and {second}, {tried} tried")
+                write!(
+                    f,
+                    "differs at {word}, weighs {first} and {second}, {tried} tried"
+                )
             }
         }
     }
@@ -88,7 +91,10 @@ impl fmt::Display for Shown<Refusal> {
             }
             Refusal::Unreadable(fault) => {
                 let (line, column) = fault.position();
-                write!(f, "refused {number} at line {line}, column {column}, {refusal}")
+                write!(
+                    f,
+                    "refused {number} at line {line}, column {column}, {refusal}"
+                )
             }
             _ => write!(f, "refused {number}, {refusal}"),
         }

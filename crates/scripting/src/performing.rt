@@ -147,7 +147,8 @@ impl<'a> Session<'a> {
         ensures made { OnOk result ((text : List ℕ) × MakesOver self.old.opening.field self.old.opening.elements self.old.tasks.items text × (self.new.shown.items ≡ self.old.shown.items ++ text)) }
         ensures opened { OnOk result ((self.new.opening ≡ opening) × (self.new.tasks.items ≡ []) × (self.new.given ≡ self.old.given)) }
     {
-        self.opening.perform(self.heap, self.tasks.as_slice(), &mut self.shown)?;
+        self.opening
+            .perform(self.heap, self.tasks.as_slice(), &mut self.shown)?;
         self.tasks.clear();
         self.opening = opening;
         Ok(())

@@ -1,6 +1,5 @@
-use Rattle.std.proofs.Common.{◌≡◌, [], ◌++◌, drop, subst, vec_items, arith}
+use Rattle.std.proofs.Common.{◌≡◌, [], drop, subst, vec_items, arith}
 use Rattle.std.proofs.Math.ListN.{drop_of_length-le}
-use Rattle.scripting.specs.Performing.{MakesOver}
 use Rattle.scripting.proofs.Steps.{Made, to_the_end}
 use Rattle.scripting.proofs.performing.perform.Goals as goal
 

@@ -1,7 +1,7 @@
 use Rattle.std.proofs.Common.{◌≡◌, ℕ, suc, ◌+◌, ◌-◌, ◌<◌, List, [], ◌∷◌, ◌++◌, length, take, ap, ◌∙◌, subst, sym, append_assoc, append-nil, arith, rules}
 use Rattle.std.proofs.Math.ListN.{set, length-set}
 use Rattle.std.proofs.lemmas.List.{take_all, take_more_set}
-use Rattle.scripting.specs.Numerals.{Numbers, Writes, none, next}
+use Rattle.scripting.specs.Numerals.{Numbers, none, next}
 use Rattle.scripting.specs.Refusing.{NoNumbers, missing, wrong, later, extra}
 use Rattle.scripting.specs.declared.mistake.Reason.{Reason}
 use Rattle.scripting.proofs.words.numbers.Goals as goal

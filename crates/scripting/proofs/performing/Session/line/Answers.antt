@@ -1,4 +1,4 @@
-use Rattle.std.proofs.Common.{◌≡◌, [], ◌++◌, refl, rules}
+use Rattle.std.proofs.Common.{◌≡◌, refl, rules}
 use Rattle.scripting.specs.declared.order.Order.TheVariants as orders
 use Rattle.scripting.specs.declared.reading.Entry.TheVariants as entries
 use Rattle.scripting.proofs.Steps.{both, field_step, open_step, lend_step, call_step, mistake_step}
