@@ -4,7 +4,6 @@
 #[cfg(test)]
 mod tests {
     use scripting::performing::{Failure, run_script};
-    use std::alloc::Global;
 
     // The word of m letters weighs the m-th Fibonacci number, and its square in the product.
     const SCRIPT: &[u8] = b"text fibonacci 177
@@ -48,7 +47,7 @@ clear 1
     }
 
     // A line for each reason but the lack of memory, which no line draws.
-    const MISTAKEN: &[u8] = b"jump 1
+    const MISTAKEN: &str = "jump 1
 sum 1 2
 clear 1 2
 clear x
@@ -76,25 +75,17 @@ line 10: expected a newline after the text
 line 12: the script ends inside the text
 ";
 
-    // The mistakes of a script, a line each; nothing where it is performed.
-    fn mistakes(heap: Global, script: &[u8]) -> Result<String, Failure> {
-        let mut text = String::new(heap);
-        match run_script(heap, script) {
-            Ok(_) => {}
-            Err(Failure::Mistaken(mistakes)) => {
-                for mistake in mistakes.iter() {
-                    let line = format!(in heap; "{mistake}\n")?;
-                    text.push_str(line.as_str())?;
-                }
-            }
-            Err(e) => return Err(e),
-        }
-        Ok(text)
-    }
-
     #[test]
     fn reports_mistakes(rt: HostRuntime) -> Result<(), Failure> {
-        assert_eq!(rt; mistakes(rt.alloc(), MISTAKEN)?.as_str(), MISTAKES);
+        let heap = rt.alloc();
+        let mut text = String::new(heap);
+        if let Err(Failure::Mistaken(mistakes)) = run_script(heap, MISTAKEN.as_bytes()) {
+            for mistake in mistakes.iter() {
+                let line = format!(in heap; "{mistake}\n")?;
+                text.push_str(line.as_str())?;
+            }
+        }
+        assert_eq!(rt; text.as_str(), MISTAKES);
         Ok(())
     }
 }
