@@ -6,9 +6,8 @@ ghost use Rattle.std.specs.Prelude.{◌<◌, length, IfOk, IfSome};
 
 use anyhow::Context;
 use report::{LONGEST, report};
-use scripting::words::number;
 use scripting::performing::run_script;
-use scripting::words::before;
+use scripting::words::{before, number};
 use std::fs;
 use std::io::Write;
 
