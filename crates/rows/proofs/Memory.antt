@@ -1,5 +1,5 @@
 -- Reads of a slice, and what loops that write one element after another leave. Assumes nothing.
-use Rattle.std.proofs.Common.{◌≡◌, ℕ, ◌+◌, ◌<◌, ◌≤◌, ◌≢◌, List, [], ◌∷◌, Option, Some, None, MatchOption, length, get_or, sym, ap, ◌∙◌, arith}
+use Rattle.std.proofs.Common.{◌≡◌, ℕ, ◌+◌, ◌<◌, ◌≤◌, ◌≢◌, List, [], ◌∷◌, Option, Some, None, MatchOption, length, get_or, sym, refl, ap, ◌∙◌, arith}
 use Rattle.std.specs.List.{AllWithin, HoldsAt}
 use Rattle.std.proofs.lemmas.List.{get_or-map}
 use Rattle.field.specs.FiniteField.{FiniteField}
@@ -12,6 +12,20 @@ use Rattle.field.proofs.Rows.{at_kept}
 pub record Copied {X : Type 0} (a n : ℕ) (src : List X) (b : ℕ) (xs ys : List X) : Type 0 where
   pub done : (j : ℕ) (d : X) → j < n → get_or ys (a + j) d ≡ get_or src (b + j) d
   pub frame : Frame a n xs ys
+
+module _ {X : Type 0} where
+  -- nothing is changed
+  pub frame_none : {a n : ℕ} {xs : List X} → Frame a n xs xs
+  frame_none = record { len = refl; below = λ k d l. refl; above = λ k d l. refl }
+
+  -- one change after another, both within the m elements from c on
+  pub frame_then : {a n b k : ℕ} {xs ys zs : List X} (c m : ℕ) → Frame a n xs ys → Frame b k ys zs → c ≤ a → a + n ≤ c + m → c ≤ b → b + k ≤ c + m → Frame c m xs zs
+  frame_then c m e f p q r s =
+      record {
+        len = f.len ∙ e.len;
+        below = λ k d h. f.below k d (omega arith) ∙ e.below k d (omega arith);
+        above = λ k d h. f.above k d (omega arith) ∙ e.above k d (omega arith);
+      }
 
 module _ {F V : Type 0} (K : FiniteField V) (v : F → V) where
   -- an element that stands in two lists has one value there

@@ -1,6 +1,7 @@
 -- Rows and matrices in a part of a slice. Assumes nothing.
-use Rattle.std.proofs.Common.{◌≡◌, ℕ, ◌+◌, ◌-◌, ◌*◌, ◌<◌, ◌≤◌, List, length, take, drop, refl, ap, ◌∙◌, arith}
+use Rattle.std.proofs.Common.{◌≡◌, ℕ, ◌+◌, ◌-◌, ◌*◌, ◌<◌, ◌≤◌, List, length, take, drop, slice_range, refl, ap, ◌∙◌, arith}
 use Rattle.std.proofs.lemmas.Nat.{mul-add-lt}
+use Rattle.std.proofs.lemmas.List.{take-take, drop-drop, drop-take}
 use Rattle.field.specs.FiniteField.{FiniteField}
 use Rattle.field.specs.Rows.{Agree, at, row_at, square_at, RowOf}
 use Rattle.field.specs.Sums.{dot}
@@ -10,6 +11,16 @@ use Rattle.rows.proofs.Layouts.{matrix_within}
 use Rattle.rows.specs.Seen.{SquareOf}
 use Rattle.field.proofs.Rows.{dot_same}
 use Rattle.field.proofs.Rows.{length_part, at_part}
+
+-- a part of a part
+pub part_of_part : {F : Type 0} (a n b m : ℕ) (xs : List F) → b + m ≤ n → slice_range (slice_range xs a (a + n)) b (b + m) ≡ slice_range xs (a + b) (a + b + m)
+part_of_part a n b m xs h =
+    let whole : a + n - a ≡ b + (n - b) = omega arith in
+    ap (λ k. take (b + m - b) (drop b (take k (drop a xs)))) whole
+    ∙ ap (take (b + m - b)) (drop-take b (n - b) (drop a xs))
+    ∙ take-take (b + m - b) (n - b) (drop b (drop a xs)) (omega arith)
+    ∙ ap (take (b + m - b)) (drop-drop b a xs)
+    ∙ ap (λ k. take k (drop (a + b) xs)) (omega arith)
 
 module _ {F V : Type 0} (K : FiniteField V) (v : F → V) where
   -- a part as a row

@@ -18,6 +18,17 @@ pub fn matrix_times_column<F: Field>(matrix: &[F], column: &[F], to: &mut [F])
     }
 }
 
+/// Copies the elements of a row.
+// In the place of `copy_from_slice`, which the compiler turns into a call of memmove: a library for C would need it.
+pub fn copy_row<F: Field>(from: &[F], to: &mut [F])
+    requires as_long { length to.old ≡ length from.now }
+    ensures very_elements { to.new ≡ from.now }
+{
+    for (j, x) in to.iter_mut().enumerate() {
+        *x = from[j];
+    }
+}
+
 /// Writes to `to` two rows side by side.
 pub fn write_beside<F: Field>(left: &[F], right: &[F], to: &mut [F])
     requires as_long { length to.old ≡ length left.now + length right.now }

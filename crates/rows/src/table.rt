@@ -1,5 +1,5 @@
 //! Tables in lent memory: their shape, and a table seen whole and by its parts.
-ghost use Rattle.std.specs.Prelude.{◌≡◌, ◌+◌, ◌<◌, ◌≤◌, length, slice_range, MatchOption, ⊤};
+ghost use Rattle.std.specs.Prelude.{◌≡◌, ◌+◌, ◌*◌, ◌<◌, ◌≤◌, length, slice_range, MatchOption, ⊤};
 ghost use Rattle.rows.specs.Layout.{table_size};
 
 use field::Field;
@@ -79,7 +79,8 @@ impl<'a, F> Copy for TableRef<'a, F> {}
 
 impl<'a, F: Field> TableRef<'a, F> {
     ghost use Rattle.field.specs.Rows.{RowOf};
-    ghost use Rattle.rows.specs.Seen.{table_of, SquareOf, HoldsTable};
+    ghost use Rattle.rows.specs.Layout.{matrix_offset, end_offset};
+    ghost use Rattle.rows.specs.Seen.{table_of, PartOf, SquareOf, HoldsTable};
 
     /// The table at the front of memory.
     pub fn new(memory: &'a [F], shape: Shape) -> TableRef<'a, F>
@@ -140,6 +141,7 @@ impl<'a, F: Field> TableRef<'a, F> {
     }
 
     pub fn start(self) -> &'a [F]
+        ensures very_elements { PartOf self.entry.memory.now self.entry.base self.entry.shape.states result.now }
         ensures start_row { RowOf F.field F.value self.entry.shape.states (table_of F.field F.value self.entry).start result.now }
     {
         &self.memory[self.base..self.base + self.shape.states]
@@ -148,6 +150,9 @@ impl<'a, F: Field> TableRef<'a, F> {
     /// The matrix of a letter, row by row.
     pub fn matrix(self, letter: usize) -> &'a [F]
         requires letter_of_table { (1 ≤ letter) × (letter ≤ self.shape.letters) }
+        ensures very_elements { PartOf self.entry.memory.now
+            (matrix_offset self.entry.base self.entry.shape.states letter)
+            (self.entry.shape.states * self.entry.shape.states) result.now }
         ensures matrix_of_letter { SquareOf F.field F.value self.entry.shape.states ((table_of F.field F.value self.entry).step letter) result.now }
     {
         let n = self.shape.states;
@@ -159,6 +164,9 @@ impl<'a, F: Field> TableRef<'a, F> {
     pub fn matrix_row(self, letter: usize, row: usize) -> &'a [F]
         requires letter_of_table { (1 ≤ letter) × (letter ≤ self.shape.letters) }
         requires row_of_table { row < self.shape.states }
+        ensures very_elements { PartOf self.entry.memory.now
+            (matrix_offset self.entry.base self.entry.shape.states letter + row * self.entry.shape.states)
+            self.entry.shape.states result.now }
         ensures row_of_matrix { RowOf F.field F.value self.entry.shape.states ((table_of F.field F.value self.entry).step letter row) result.now }
     {
         let n = self.shape.states;
@@ -166,6 +174,9 @@ impl<'a, F: Field> TableRef<'a, F> {
     }
 
     pub fn end(self) -> &'a [F]
+        ensures very_elements { PartOf self.entry.memory.now
+            (end_offset self.entry.base self.entry.shape.states self.entry.shape.letters)
+            self.entry.shape.states result.now }
         ensures end_column { RowOf F.field F.value self.entry.shape.states (table_of F.field F.value self.entry).end result.now }
     {
         let n = self.shape.states;

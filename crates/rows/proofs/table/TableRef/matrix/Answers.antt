@@ -8,4 +8,4 @@ returns g c =
     let t = c.args.self in
     let n = t.shape.states in
     let from = t.base + n + (c.args.letter - 1) * (n * n) in
-    record { matrix_of_letter = square_part g.F.Field.field g.F.Field.value from (from + n * n) n _ t.memory.now refl (omega (arith, t.within, matrix_within c.args.letter t.shape.letters (n * n) (omega arith) (omega arith))) (λ i p j q. refl) }
+    record { very_elements = refl; matrix_of_letter = square_part g.F.Field.field g.F.Field.value from (from + n * n) n _ t.memory.now refl (omega (arith, t.within, matrix_within c.args.letter t.shape.letters (n * n) (omega arith) (omega arith))) (λ i p j q. refl) }
