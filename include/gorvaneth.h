@@ -1,8 +1,8 @@
 /* Gorvaneth: compares sequence tables. For C (from C99 on) and C++.
  *
- * Link libreport.a, which `tools/build report` writes to target/staticlib/. The archive needs nothing else but memcpy,
- * memmove and memset of the C library. The function allocates nothing, keeps nothing between calls, and writes nothing
- * but the output.
+ * Link libreport.a, which `tools/build report` writes to target/staticlib/. The archive needs nothing else but memcpy
+ * and memset of the C library. The function allocates nothing, keeps nothing between calls, and writes nothing but
+ * the output.
  */
 #ifndef GORVANETH_H
 #define GORVANETH_H

@@ -5,7 +5,7 @@ ghost use Rattle.rows.specs.Memory.{Frame};
 ghost use Rattle.elimination.specs.Elimination.{RowsInEchelon, OnesAtPivots, Remainder, NothingLeft, NewRow};
 
 use field::Field;
-use rows::row::{first_nonzero, scale_row};
+use rows::row::{copy_row, first_nonzero, scale_row};
 
 /// Takes from the row what the rows of `basis`, as many as there are pivots, take of it: it is zero at their pivots then.
 pub fn reduce_row<F: Field>(row: &mut [F], basis: &[F], pivots: &[usize])
@@ -31,7 +31,7 @@ pub fn keep_row<F: Field>(row: &[F], echelon: &mut [F], pivots: &[usize]) -> Opt
     let n = row.len();
     let (basis, rest) = echelon.split_at_mut(pivots.len() * n);
     let new = &mut rest[..n];
-    new.copy_from_slice(row);
+    copy_row(row, new);
     reduce_row(new, basis, pivots);
     let pivot = first_nonzero(new)?;
     let factor = new[pivot].inverse()?;

@@ -12,6 +12,7 @@ use crate::place::Place;
 use book::refusal::Refusal;
 use field::Field;
 use operations::{addition, adjusting, multiplication, turning};
+use rows::row::copy_row;
 use rows::table::{Shape, TableRef};
 use text::table::read_table;
 
@@ -24,7 +25,7 @@ impl Directory {
     {
         let shape = made.shape();
         let base = to.begins();
-        shelf[base..base + shape.size()].copy_from_slice(made.elements());
+        copy_row(made.elements(), &mut shelf[base..base + shape.size()]);
         self.set(to, Entry::of(shape));
     }
 

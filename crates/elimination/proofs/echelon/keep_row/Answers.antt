@@ -11,7 +11,7 @@ reduce_row-requires-clause-echelon_form g c =
     let a = c.args in
     let n = length a.row.now in
     let split = c.split_at_mut-basis in
-    rw c.copy_from_slice.ensures.after
+    rw c.copy_row.ensures.very_elements
     (echelon_same K n (length a.pivots.now) (square_at K v a.echelon.now 0 n) (square_at K v split.result.0.now 0 n) (λ b. get_or a.pivots.now b 0)
     (rows_before K v n (length a.pivots.now) a.echelon.now split.result.0.now split.result.1.now split.ensures.value split.ensures.front_len) c.requires.echelon_form)
 
@@ -21,7 +21,7 @@ reduce_row-requires-clause-ones_at_pivots g c =
     let a = c.args in
     let n = length a.row.now in
     let split = c.split_at_mut-basis in
-    rw c.copy_from_slice.ensures.after
+    rw c.copy_row.ensures.very_elements
     (λ b h.
     rows_before K v n (length a.pivots.now) a.echelon.now split.result.0.now split.result.1.now split.ensures.value split.ensures.front_len b h (get_or a.pivots.now b 0) (c.requires.echelon_form.within b h)
     ∙ c.requires.ones_at_pivots b h)
@@ -37,8 +37,8 @@ returns-in_err-pivot-clause-nothing_left_or_new_row g c =
     let x = at K v a.row.now in
     let y = at K v c.reduce_row.new.row in
     let before = rows_before K v n (length a.pivots.now) a.echelon.now split.result.0.now split.result.1.now split.ensures.value split.ensures.front_len in
-    let left = remainder_same K n (length a.pivots.now) q (square_at K v split.result.0.now 0 n) p x x y before (λ i l. refl) (rw c.copy_from_slice.ensures.after at c.reduce_row.ensures.remainder) in
-    let kept : length c.reduce_row.new.row ≡ n = c.reduce_row.auto.row ∙ ap length c.copy_from_slice.ensures.after in
+    let left = remainder_same K n (length a.pivots.now) q (square_at K v split.result.0.now 0 n) p x x y before (λ i l. refl) (rw c.copy_row.ensures.very_elements at c.reduce_row.ensures.remainder) in
+    let kept : length c.reduce_row.new.row ≡ n = c.reduce_row.auto.row ∙ ap length c.copy_row.ensures.very_elements in
     rw c.from_residual.ensures
     (remainder_nothing K n (length a.pivots.now) q p x y left (λ i l. c.in_err-pivot.ensures.first_or_all_zero i (rw kept l)))
 
@@ -55,11 +55,11 @@ returns-clause-nothing_left_or_new_row g c =
     let z = c.scale_row.new.row in
     let behind = drop n split.result.1.now in
     let before = rows_before K v n (length a.pivots.now) a.echelon.now split.result.0.now split.result.1.now split.ensures.value split.ensures.front_len in
-    let left = remainder_same K n (length a.pivots.now) q (square_at K v split.result.0.now 0 n) p x x y before (λ i l. refl) (rw c.copy_from_slice.ensures.after at c.reduce_row.ensures.remainder) in
+    let left = remainder_same K n (length a.pivots.now) q (square_at K v split.result.0.now 0 n) p x x y before (λ i l. refl) (rw c.copy_row.ensures.very_elements at c.reduce_row.ensures.remainder) in
     let f = c.in_ok-pivot.ensures.first_or_all_zero in
     let within = f.within in
     let read = at_read K v c.reduce_row.new.row c.in_ok-pivot.pivot c.index-new-pivot.result (omega arith) c.index-new-pivot.is in
-    let kept : length c.reduce_row.new.row ≡ n = c.reduce_row.auto.row ∙ ap length c.copy_from_slice.ensures.after in
+    let kept : length c.reduce_row.new.row ≡ n = c.reduce_row.auto.row ∙ ap length c.copy_row.ensures.very_elements in
     let scaled = c.scale_row.ensures.multiple_written in
     let long : length z ≡ n = scaled.len ∙ kept in
     record {

@@ -26,11 +26,11 @@ returns g c =
             c.set.ensures.one_entry_changed
             ∙ ap (with_place c.args.self.now c.args.to.number) (ap entry_of c.of.ensures.holds ∙ ap (λ y. filled y.states y.letters) c.shape-shape.ensures.told ∙ ap₂ filled s.states s.letters);
         numbers =
-            subst (λ b. TableWritten K v b R c.args.shelf.now (put_mid base (base + c.size.result - base) c.args.shelf.now c.copy_from_slice.new.self)) c.begins-base.ensures.told
-            (table_kept K v base (base + c.size.result - base) z.states z.letters c.args.shelf.now c.copy_from_slice.new.self R (omega (arith, size))
+            subst (λ b. TableWritten K v b R c.args.shelf.now (put_mid base (base + c.size.result - base) c.args.shelf.now c.copy_row.new.to)) c.begins-base.ensures.told
+            (table_kept K v base (base + c.size.result - base) z.states z.letters c.args.shelf.now c.copy_row.new.to R (omega (arith, size))
             (omega (arith, place_fits z c.args.to.number (length c.args.shelf.now) base c.begins-base.ensures.told c.args.to.within c.requires.shelf_whole, size))
-            (ap length c.copy_from_slice.ensures.after ∙ held.len ∙ omega (arith, size))
-            (subst (λ xs. SameTable (table_at K v xs 0 z.states z.letters) R) (sym c.copy_from_slice.ensures.after) (same_trans (table_at K v c.elements.result.now 0 z.states z.letters) (table_of K v t) R held.same s)));
+            (ap length c.copy_row.ensures.very_elements ∙ held.len ∙ omega (arith, size))
+            (subst (λ xs. SameTable (table_at K v xs 0 z.states z.letters) R) (sym c.copy_row.ensures.very_elements) (same_trans (table_at K v c.elements.result.now 0 z.states z.letters) (table_of K v t) R held.same s)));
         lent = refl;
       };
     }
