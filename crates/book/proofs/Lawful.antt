@@ -15,7 +15,7 @@ use Rattle.rows.specs.Layout.{table_at}
 use Rattle.text.specs.Facts.{ToldApart}
 use Rattle.book.specs.Shelves.{Entry, empty, filled, Shelf, at_place, entry, states_of, letters_of, begins, table}
 use Rattle.book.specs.Calls.{Call, reduce, weigh, compare}
-use Rattle.book.specs.Verdicts.{Says, reported}
+use Rattle.book.specs.Verdicts.{kind_number, Says, reported}
 use Rattle.book.specs.Doing.{Makes}
 use Rattle.book.specs.Using.{lending, Leads, Course, Opening, Untouched, next, Page, blank, holds, page, Book}
 use Rattle.book.specs.Running.{taken_back}
@@ -36,15 +36,17 @@ use Rattle.book.proofs.Staying.{Stays, stays_table, stands_range, untouched_stay
 module _ {V : Type 0} (K : FiniteField V) (S T : Table V) where
   -- a verdict record on two tables reports of them as the law says
   says_reports : (v : Verdict) → Says K S T v → Reports K S T v
-  says_reports v (inl a) = record {
-    kinds = inl a.kind;
-    exactly = (λ e. absurd (omega (arith, a.kind)), λ w. absurd (w.2 (a.alike w.0 w.1)));
-    least = λ e. absurd (omega (arith, a.kind));
-    short = λ e. absurd (omega (arith, a.kind));
-  }
+  says_reports v (inl a) =
+      let zero : kind_number v.kind ≡ 0 = ap kind_number a.kind in
+      record {
+        kinds = inl zero;
+        exactly = (λ e. absurd (omega (arith, zero)), λ w. absurd (w.2 (a.alike w.0 w.1)));
+        least = λ e. absurd (omega (arith, zero));
+        short = λ e. absurd (omega (arith, zero));
+      }
   says_reports v (inr d) = record {
-    kinds = inr d.kind;
-    exactly = (λ e. (d.word, d.least.over, d.least.differs), λ w. d.kind);
+    kinds = inr (ap kind_number d.kind);
+    exactly = (λ e. (d.word, d.least.over, d.least.differs), λ w. ap kind_number d.kind);
     least = λ e. subst (LeastDifference K S T) (sym it) d.least;
     short = λ e. subst (λ w. length w < S.states + T.states) (sym it) (difference_short K S T d.word d.least);
   }

@@ -9,10 +9,11 @@ use Rattle.book.specs.declared.verdict.Kind.{Kind}
 use Rattle.book.specs.declared.verdict.Kind.TheVariants as kinds
 use Rattle.book.specs.declared.verdict.Verdict.{Verdict}
 
--- the number of each kind: 0, all words weigh alike; 1, some word does not
+-- the number of each kind: 0, all words weigh alike; 1, some word does not; another, which compare never writes
 abbrev pub kind_number : Kind → ℕ
 kind_number kinds.Alike = 0
 kind_number kinds.Differs = 1
+kind_number (kinds.Other number) = number
 
 -- a record to which nothing is written yet
 abbrev pub unwritten : Verdict
@@ -35,7 +36,7 @@ module _ {V : Type 0} (K : FiniteField V) (S T : Table V) where
   -- all words weigh alike: kind 0, how many words are tried and kept, and zeros
   pub record SaysAlike (v : Verdict) : Type 0 where
     pub alike : Alike K S T
-    pub kind : kind_number v.kind ≡ 0
+    pub kind : v.kind ≡ kinds.Alike
     pub tried : Count (Tried K S T) v.tried
     pub kept : Count (Kept K S T) v.kept
     pub length_zero : v.length ≡ 0
@@ -49,7 +50,7 @@ module _ {V : Type 0} (K : FiniteField V) (S T : Table V) where
   pub record SaysDifferent (v : Verdict) : Type 0 where
     pub word : Word
     pub least : LeastDifference K S T word
-    pub kind : kind_number v.kind ≡ 1
+    pub kind : v.kind ≡ kinds.Differs
     pub tried : Count (λ u. Tried K S T u × ((u ≺ word) ⊎ (u ≡ word))) v.tried
     pub kept : v.kept ≡ 0
     pub length_word : v.length ≡ length word

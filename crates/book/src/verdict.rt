@@ -2,21 +2,24 @@
 ghost use Rattle.std.specs.Prelude.{◌≡◌};
 ghost use Rattle.book.specs.Verdicts.{kind_number, unwritten};
 
-/// Whether two tables weigh all words alike, or some word differently.
+/// Whether two tables weigh all words alike, or some word differently. A record that is lent to compare may hold any other
+/// number before.
 #[derive(Clone, Copy, Debug, PartialEq, Eq)]
 pub enum Kind {
     Alike,
     Differs,
+    Other(u8),
 }
 
 impl Kind {
-    /// The kind's number, 0 or 1.
+    /// The kind's number: 0 or 1 of what compare writes.
     pub fn number(self) -> u8
         ensures numbered { result ≡ kind_number self }
     {
         match self {
             Kind::Alike => 0,
             Kind::Differs => 1,
+            Kind::Other(number) => number,
         }
     }
 }

@@ -11,10 +11,8 @@ use Rattle.book.specs.Verdicts.{Says}
 use Rattle.book.specs.declared.outcome.Answer.TheVariants.{Done, Told}
 use Rattle.book.specs.declared.refusal.Refusal.{Refusal}
 use Rattle.book.specs.declared.refusal.Refusal.TheVariants.{LettersDiffer}
-use Rattle.book.specs.declared.verdict.Kind.TheVariants as kinds
 use Rattle.book.specs.declared.verdict.Verdict.{Verdict}
 use Rattle.book.proofs.Accepting.{not_other}
-use Rattle.book.proofs.OneVerdict.{one_kind}
 use Rattle.shelf.specs.Views.{outcome_by}
 use Rattle.report.specs.Reports.{IsText, AreTexts, ReportLine, first_refused, second_refused, letters_differ, alike, different, refused_line}
 use Rattle.report.specs.Findings.{finding_line, verdict_line, Fits}
@@ -108,5 +106,5 @@ module _ {V : Type 0} (K : FiniteField V) {F : Type 0} (value : F → V) (first 
         (by_kind v (record { left = f.text_is; right = g.text_is; letters = letters }) says, says_small K f.R g.R f.text_is.sized g.text_is.sized v says)
       where
         by_kind : (v : Verdict) → AreTexts K first second f.R g.R → Says K f.R g.R v → ReportLine K first second (verdict_line v.kind v)
-        by_kind v texts (inl h) = subst (λ k. ReportLine K first second (verdict_line k v)) (sym (one_kind v.kind kinds.Alike h.kind)) (alike f.R g.R v texts h)
-        by_kind v texts (inr h) = subst (λ k. ReportLine K first second (verdict_line k v)) (sym (one_kind v.kind kinds.Differs h.kind)) (different f.R g.R v texts h)
+        by_kind v texts (inl h) = subst (λ k. ReportLine K first second (verdict_line k v)) (sym h.kind) (alike f.R g.R v texts h)
+        by_kind v texts (inr h) = subst (λ k. ReportLine K first second (verdict_line k v)) (sym h.kind) (different f.R g.R v texts h)

@@ -9,9 +9,8 @@ use Rattle.text.specs.Facts.{ToldApart, Decided}
 use Rattle.faults.specs.declared.LoadFault.{LoadFault}
 use Rattle.book.specs.Verdicts.{Says}
 use Rattle.book.specs.declared.refusal.Refusal.TheVariants.{LettersDiffer, Unreadable}
-use Rattle.book.specs.declared.verdict.Kind.TheVariants as kinds
 use Rattle.book.specs.declared.verdict.Verdict.{Verdict}
-use Rattle.book.proofs.OneVerdict.{one_kind, says_one}
+use Rattle.book.proofs.OneVerdict.{says_one}
 use Rattle.report.specs.Reports.{IsText, ReportLine, first_refused, second_refused, letters_differ, alike, different, refused_line, WeighAlike, OneLine, BeginsWhereAlike}
 use Rattle.report.specs.Findings.{verdict_line}
 use Rattle.report.proofs.SameVerdicts.{says_same}
@@ -45,8 +44,8 @@ module _ {V : Type 0} (K : FiniteField V) (told_apart : ToldApart K) (decided : 
     any l (first_refused f h) = bad f h refl
     any l (second_refused S f a h) = good S a (bad f h refl)
     any l (letters_differ S T a b h) = good S a (good T b (unlike h refl))
-    any l (alike S T v h s) = good S h.left (good T h.right (compared v h.letters (inl s) (ap (λ k. verdict_line k v) (sym (one_kind v.kind kinds.Alike s.kind)))))
-    any l (different S T v h s) = good S h.left (good T h.right (compared v h.letters (inr s) (ap (λ k. verdict_line k v) (sym (one_kind v.kind kinds.Differs s.kind)))))
+    any l (alike S T v h s) = good S h.left (good T h.right (compared v h.letters (inl s) (ap (λ k. verdict_line k v) (sym s.kind))))
+    any l (different S T v h s) = good S h.left (good T h.right (compared v h.letters (inr s) (ap (λ k. verdict_line k v) (sym s.kind))))
 
     module _ (l m : List ℕ) where
       both_one : (S T S' T' : Table V) → SameTable S S' → SameTable T T' → Both S T l → Both S' T' m → l ≡ m

@@ -11,6 +11,7 @@ use Rattle.report.specs.Reports.{alike_line, different_line, refused_line}
 abbrev pub verdict_line : Kind → Verdict → List ℕ
 verdict_line kinds.Alike v = alike_line v
 verdict_line kinds.Differs v = different_line v
+verdict_line (kinds.Other number) v = different_line v
 
 -- the line that reports what was found; the texts are numbered 1 and 2, and 0 stands for the two together
 abbrev pub finding_line : Result Verdict Rejection → List ℕ

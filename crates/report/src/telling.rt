@@ -58,7 +58,7 @@ fn put_verdict(out: &mut [u8; LONGEST], verdict: &Verdict) -> usize
             let values = [verdict.tried as u64, verdict.kept as u64];
             put_in_front(out, b'Q', &values, b"")
         }
-        Kind::Differs => {
+        Kind::Differs | Kind::Other(_) => {
             let (left, right) = (verdict.first, verdict.second);
             let values = [verdict.tried as u64, verdict.length as u64, left, right];
             put_in_front(out, b'D', &values, &verdict.letters[..verdict.length])

@@ -11,7 +11,7 @@ use Rattle.book.specs.declared.outcome.Answer.TheVariants.{Done, Code, Told, Cou
 use Rattle.book.specs.declared.refusal.Refusal.{Refusal}
 use Rattle.book.specs.declared.refusal.Refusal.TheVariants.{PlaceOutside, MemoryShort, WorkShort, PlaceEmpty, LettersDiffer, StatesOver, LetterOutside, CodeOutside, OutputShort, Unreadable}
 use Rattle.book.specs.declared.verdict.Kind.{Kind}
-use Rattle.book.specs.declared.verdict.Kind.TheVariants.{Alike, Differs}
+use Rattle.book.specs.declared.verdict.Kind.TheVariants.{Alike, Differs, Other}
 use Rattle.book.specs.declared.verdict.Verdict.{Verdict}
 
 -- a word: its letters with a space between
@@ -19,13 +19,18 @@ abbrev pub word_text : List ℕ → List ℕ
 word_text [] = codes "the empty word"
 word_text (a ∷ word) = decimal a ++ flat_map (λ b. codes " " ++ decimal b) word
 
--- a verdict by its kind
-abbrev pub text_by_kind : Kind → Verdict → List ℕ
-text_by_kind Alike v = codes "alike, " ++ decimal v.tried ++ codes " tried, " ++ decimal v.kept ++ codes " kept"
-text_by_kind Differs v =
+-- a verdict that reports a word
+abbrev pub differing_text : Verdict → List ℕ
+differing_text v =
     codes "differs at " ++ word_text (reported v)
     ++ codes ", weighs " ++ decimal v.first ++ codes " and " ++ decimal v.second
     ++ codes ", " ++ decimal v.tried ++ codes " tried"
+
+-- a verdict by its kind
+abbrev pub text_by_kind : Kind → Verdict → List ℕ
+text_by_kind Alike v = codes "alike, " ++ decimal v.tried ++ codes " tried, " ++ decimal v.kept ++ codes " kept"
+text_by_kind Differs v = differing_text v
+text_by_kind (Other number) v = differing_text v
 
 -- what compare found
 abbrev pub verdict_text : Verdict → List ℕ

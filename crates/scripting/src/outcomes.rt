@@ -53,7 +53,7 @@ impl fmt::Display for Shown<Verdict> {
         } = self.0;
         match self.0.kind {
             Kind::Alike => write!(f, "alike, {tried} tried, {kept} kept"),
-            Kind::Differs => {
+            Kind::Differs | Kind::Other(_) => {
                 let word = Word(reported_word(&self.0));
                 write!(
                     f,

@@ -38,6 +38,7 @@ fn refusals_as_numbers(rt: HostRuntime) {
 fn kinds_as_numbers(rt: HostRuntime) {
     assert_eq!(rt; Kind::Alike.number(), 0);
     assert_eq!(rt; Kind::Differs.number(), 1);
+    assert_eq!(rt; Kind::Other(9).number(), 9);
 }
 
 // The reason of a refusal, for a person.
