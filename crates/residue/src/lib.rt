@@ -6,7 +6,7 @@ ghost use Rattle.std.specs.Prelude.{◌≡◌, ℕ, ◌<◌, ◌≤◌};
 ghost use Rattle.field.specs.Below.{Below};
 ghost use Rattle.residue.specs.Prime.{Prime};
 ghost use Rattle.residue.specs.Residues.{residues};
-ghost use Rattle.residue.specs.Delivered.{prime_2, prime_65537};
+ghost use Rattle.residue.specs.Proofs.Primality.{prime_by};
 
 mod sums;
 
@@ -22,17 +22,17 @@ pub type Bit = Residue<2>;
 /// GF(65537).
 pub type Fermat = Residue<65537>;
 
-/// A proof that P is a prime of at most 65537. Another modulus needs one more impl.
+/// A proof that P is a prime of at most 65537. Another modulus costs one impl.
 pub trait PrimeModulus<const P: u32> {
     ghost prime: { Prime P };
 }
 
 impl PrimeModulus<2> for Residue<2> {
-    ghost prime = { prime_2 };
+    ghost prime = { prime_by 2 2 tt tt tt tt tt };
 }
 
 impl PrimeModulus<65537> for Residue<65537> {
-    ghost prime = { prime_65537 };
+    ghost prime = { prime_by 65537 257 tt tt tt tt tt };
 }
 
 /// A number below P. The field is private, so no other number can be made an element.
