@@ -1,7 +1,7 @@
 //! Compares two tables: reads their texts, and prints the line that reports on them.
 #![tactic(auto)]
 
-ghost use Rattle.std.specs.Prelude.{◌≡◌, ◌≤◌};
+ghost use Rattle.std.specs.Prelude.{◌≡◌, ◌≤◌, vec_len, IfOk};
 ghost use Rattle.verdict.specs.Reporting.{ReportsOver, status_by};
 
 use byte::Byte;
@@ -168,7 +168,9 @@ fn explain_refusal(
 }
 
 // Reads a file that the command line names, or else the one that stands in for it, which may be missing.
-fn read(rt: &HostRuntime, files: &[String], i: usize, default: &str) -> Result<Vec<u8>, Error> {
+fn read(rt: &HostRuntime, files: &[String], i: usize, default: &str) -> Result<Vec<u8>, Error>
+    ensures within { IfOk result (λ text. vec_len text ≤ 19594) }
+{
     let name = name_or(files, i, default);
     let text = if i < files.len() {
         read_input(rt, name, TEXT_LIMIT)
