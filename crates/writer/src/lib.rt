@@ -8,7 +8,8 @@ ghost use Rattle.columns.specs.Lines.{letter as letter_of, line as line_of, TenD
 ghost use Rattle.text.specs.Texts.{text_size, text_of, body_of};
 ghost use Rattle.text.specs.Rows.{codes_of, row_lines};
 
-use columns::line::{Kind, put_line};
+use columns::column::put_numbers;
+use columns::line::Kind;
 use field::Field;
 use rows::table::{Shape, TableRef};
 use text::matrix::heads;
@@ -24,8 +25,13 @@ fn put_codes_line<F: Field>(out: &mut [u8], kind: Kind, heads: &[u64], elements:
     requires room { length out.old ≡ 2 + 11 * (length heads.now + length elements.now) }
     ensures written { out.new ≡ line_of (letter_of kind) (heads.now ++ codes_of F.field F.value elements.now) }
 {
-    let codes = elements.iter().map(|x| x.code());
-    put_line(out, u8::from(kind), heads.iter().copied().chain(codes));
+    let codes_at = 1 + 11 * heads.len();
+    let end = out.len() - 1;
+    out[0] = u8::from(kind);
+    // Two loops: one over a chain would ask at each number which part it is in, and would not know how small codes are.
+    put_numbers(&mut out[1..codes_at], heads.iter().copied());
+    put_numbers(&mut out[codes_at..end], elements.iter().map(|x| x.code()));
+    out[end] = b'\n';
 }
 
 /// Writes the first line: the table's sizes and the field's q.
