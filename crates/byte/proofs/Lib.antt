@@ -1,2 +1,4 @@
 pub mod Looked
+pub mod Rows
+pub mod Shifts
 pub mod Remainders

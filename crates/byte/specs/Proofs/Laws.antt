@@ -14,7 +14,7 @@ raised_lt a =
     (omega (arith, mod-lt a {m = 128} (lit< tt)))
     (omega (arith, mod-lt (a / 128) {m = 2} (lit< tt)))
 
-bit_lt : (b a : ℕ) → a < 256 → b % 2 * a < 256
+pub bit_lt : (b a : ℕ) → a < 256 → b % 2 * a < 256
 bit_lt b a h =
     let bit : b % 2 < 2 = mod-lt b (lit< tt) in
     let most : b % 2 * a ≤ 1 * 255 = mul-le (b % 2) a 1 255 (omega arith) (omega arith) in
