@@ -1,4 +1,4 @@
 pub mod Verbs
 pub mod Onward
-pub mod Steps
+pub mod Shelves
 pub mod Made

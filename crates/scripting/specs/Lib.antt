@@ -6,6 +6,7 @@ pub mod Arguments
 pub mod Refusing
 pub mod Mistakes
 pub mod Telling
+pub mod Closing
 pub mod Showing
 pub mod Performing
 pub mod Reading

@@ -1,10 +1,11 @@
 //! Performs a script, a request at a time, since what write wrote is shown before the next call.
-ghost use Rattle.std.specs.Prelude.{◌≡◌, ◌*◌, ◌^◌, ◌<◌, ◌++◌, [], length, min, List, ℕ, IfOk, OnOk};
+ghost use Rattle.std.specs.Prelude.{◌≡◌, ◌*◌, ◌^◌, ◌<◌, ◌++◌, length, IfOk, OnOk};
 ghost use Rattle.std.specs.Mem.{type_size};
 ghost use Rattle.book.specs.Running.{CarriesOut};
 ghost use Rattle.book.specs.declared.call.Request.{Request};
 ghost use Rattle.shelf.specs.Views.{state};
-ghost use Rattle.scripting.specs.Performing.{shown_of, Requests, MakesOnFresh, MakesOver, ShowsFrom, Step};
+ghost use Rattle.scripting.specs.Performing.{shown_of, Requests, ShowsFrom};
+ghost use Rattle.scripting.specs.Closing.{opened, Passed, Leads, Performs, PerformsOver};
 ghost use Rattle.scripting.specs.Judging.{Judged, JudgedAsRead};
 ghost use Rattle.scripting.specs.declared.performing.Failure.TheVariants.{NoMemory};
 
@@ -89,98 +90,140 @@ impl Task<'_> {
     }
 }
 
-// Makes the calls on a shelf over F that is opened for them, and adds what they show.
-fn perform_over<F: Field>(
-    heap: Global,
-    elements: usize,
-    tasks: &[Task<'_>],
-    shown: &mut Vec<u8>,
-) -> Result<(), AllocError>
-    requires elements_fit { 12544 * type_size F.row < 2 ^ 63 }
-    ensures made { OnOk result ((text : List ℕ) × MakesOnFresh F.field F.value (min elements 12544) tasks.now text × (shown.new.items ≡ shown.old.items ++ text)) }
-{
-    let mut memory = [F::zero(); SHELF];
-    let shelf = &mut memory[..elements.min(SHELF)];
-    let mut directory = Directory::open();
-    let mut work = [F::zero(); WORK];
-    let mut output = [0u8; LONGEST];
-    let mut verdict = Verdict::blank();
-    for task in tasks {
-        let outcome = task.make(&mut directory, shelf, &mut work, &mut output, &mut verdict);
-        task.show(heap, shown, outcome, &output)?;
-    }
-    Ok(())
+// What closes a shelf: a line that opens another, or the end of the script.
+#[derive(Clone, Copy)]
+enum Close {
+    Field(FieldChoice),
+    Open { elements: usize },
+    End,
 }
 
-impl Opening {
-    // Opens the shelf, makes the calls on it, and adds what they show.
-    fn perform(
-        self,
-        heap: Global,
-        tasks: &[Task<'_>],
-        shown: &mut Vec<u8>,
-    ) -> Result<(), AllocError>
-        ensures made { OnOk result ((text : List ℕ) × MakesOver self.field self.elements tasks.now text × (shown.new.items ≡ shown.old.items ++ text)) }
+impl Close {
+    // The shelf that is opened, where one over this field was open.
+    fn opening(self, field: FieldChoice) -> Option<Opening>
+        ensures opened { result ≡ opened field self }
     {
-        match self.field {
-            FieldChoice::Bits => perform_over::<Bit>(heap, self.elements, tasks, shown),
-            FieldChoice::Bytes => perform_over::<Byte>(heap, self.elements, tasks, shown),
-            FieldChoice::Fermat => perform_over::<Fermat>(heap, self.elements, tasks, shown),
+        match self {
+            Close::Field(field) => Some(Opening {
+                field,
+                elements: SHELF,
+            }),
+            Close::Open { elements } => Some(Opening { field, elements }),
+            Close::End => None,
         }
     }
 }
 
-// How far a script is performed: the shelf that is open, what the next call is given, the calls that are still to be made
-// on the shelf, and what was shown so far.
-#[derive(Drop)]
-struct Session<'a> {
-    heap: Global,
-    opening: Opening,
-    given: Given,
-    tasks: Vec<Task<'a>>,
-    shown: Vec<u8>,
+// What comes next: a call to make on the shelf that is open, or what closes it.
+#[derive(Clone, Copy)]
+enum Next<'a> {
+    Call(Task<'a>),
+    Close(Close),
 }
 
-impl<'a> Session<'a> {
-    // Makes the calls on the shelf that is open, and opens another.
-    fn open(&mut self, opening: Opening) -> Result<(), AllocError>
-        ensures made { OnOk result ((text : List ℕ) × MakesOver self.old.opening.field self.old.opening.elements self.old.tasks.items text × (self.new.shown.items ≡ self.old.shown.items ++ text)) }
-        ensures opened { OnOk result ((self.new.opening ≡ opening) × (self.new.tasks.items ≡ []) × (self.new.given ≡ self.old.given)) }
-    {
-        self.opening
-            .perform(self.heap, self.tasks.as_slice(), &mut self.shown)?;
-        self.tasks.clear();
-        self.opening = opening;
-        Ok(())
-    }
+// The lines that are still to be performed, and what the next call is given.
+#[derive(Clone, Copy)]
+struct Rest<'a> {
+    lines: &'a [Line],
+    given: Given,
+}
 
-    // Goes on by a line.
-    fn line(&mut self, line: &'a Line) -> Result<(), AllocError>
-        ensures step { OnOk result (Step self.old.opening self.old.given self.old.tasks.items line.now self.new.opening self.new.given self.new.tasks.items self.old.shown.items self.new.shown.items) }
+impl<'a> Rest<'a> {
+    // Goes on to behind the next line that is a call or opens a shelf, or to the end.
+    fn next(&mut self) -> Next<'a>
+        ensures leads { Leads self.old.given self.old.lines.now result self.new.given self.new.lines.now }
     {
-        match &line.entry {
-            Entry::Order(Order::Field(field)) => self.open(Opening {
-                field: *field,
-                elements: SHELF,
-            }),
-            Entry::Order(Order::Open { elements }) => self.open(Opening {
-                field: self.opening.field,
-                elements: *elements,
-            }),
-            Entry::Order(Order::Lend(given)) => {
-                self.given = *given;
-                Ok(())
+        while let [line, behind @ ..] = self.lines {
+            self.lines = behind;
+            match &line.entry {
+                Entry::Order(Order::Field(field)) => return Next::Close(Close::Field(*field)),
+                Entry::Order(Order::Open { elements }) => {
+                    return Next::Close(Close::Open {
+                        elements: *elements,
+                    });
+                }
+                Entry::Order(Order::Lend(given)) => {
+                    self.given = *given;
+                }
+                Entry::Order(Order::Call(call)) => {
+                    return Next::Call(Task {
+                        number: line.number,
+                        call,
+                        given: self.given,
+                    });
+                }
+                Entry::File { .. } => {}
+                Entry::Mistaken(_) => {}
             }
-            Entry::Order(Order::Call(call)) => {
-                self.tasks.push(Task {
-                    number: line.number,
-                    call,
-                    given: self.given,
-                })?;
-                Ok(())
+        }
+        Next::Close(Close::End)
+    }
+}
+
+// Makes the calls on a shelf over F that is opened for them, and adds what they show. Returns what closes it.
+fn perform_on<F: Field>(
+    heap: Global,
+    elements: usize,
+    rest: &mut Rest<'_>,
+    work: &mut [F; WORK],
+    output: &mut [u8; LONGEST],
+    shown: &mut Vec<u8>,
+) -> Result<Close, AllocError>
+    requires elements_fit { 12544 * type_size F.row < 2 ^ 63 }
+    ensures performs { IfOk result (λ close. PerformsOver F.field F.value elements rest.old.given rest.old.lines.now close rest.new.given rest.new.lines.now shown.old.items shown.new.items) }
+    ensures passed { IfOk result (λ close. Passed close rest.old.lines.now rest.new.lines.now) }
+{
+    let mut memory = [F::zero(); SHELF];
+    let shelf = &mut memory[..elements.min(SHELF)];
+    let mut directory = Directory::open();
+    let mut verdict = Verdict::blank();
+    loop {
+        match rest.next() {
+            Next::Call(task) => {
+                let outcome = task.make(&mut directory, shelf, work, output, &mut verdict);
+                task.show(heap, shown, outcome, output)?;
             }
-            Entry::File { .. } => Ok(()),
-            Entry::Mistaken(_) => Ok(()),
+            Next::Close(close) => return Ok(close),
+        }
+    }
+}
+
+// Makes the calls on a shelf over F with so many elements, and on those that are opened over the same field behind it. All
+// are lent the same work memory and output. Returns what closes the last shelf.
+fn perform_over<F: Field>(
+    heap: Global,
+    elements: usize,
+    rest: &mut Rest<'_>,
+    shown: &mut Vec<u8>,
+) -> Result<Close, AllocError>
+    requires elements_fit { 12544 * type_size F.row < 2 ^ 63 }
+    ensures performs { IfOk result (λ close. PerformsOver F.field F.value elements rest.old.given rest.old.lines.now close rest.new.given rest.new.lines.now shown.old.items shown.new.items) }
+    ensures passed { IfOk result (λ close. Passed close rest.old.lines.now rest.new.lines.now) }
+{
+    let mut work = [F::zero(); WORK];
+    let mut output = [0u8; LONGEST];
+    let mut close = perform_on(heap, elements, rest, &mut work, &mut output, shown)?;
+    while let Close::Open { elements } = close {
+        close = perform_on(heap, elements, rest, &mut work, &mut output, shown)?;
+    }
+    Ok(close)
+}
+
+impl Opening {
+    // Opens the shelf, and makes the calls on it and on those over the same field behind it. Returns what closes the last.
+    fn perform(
+        self,
+        heap: Global,
+        rest: &mut Rest<'_>,
+        shown: &mut Vec<u8>,
+    ) -> Result<Close, AllocError>
+        ensures performs { IfOk result (λ close. Performs self rest.old.given rest.old.lines.now (opened self.field close) rest.new.given rest.new.lines.now shown.old.items shown.new.items) }
+        ensures passed { IfOk result (λ close. Passed close rest.old.lines.now rest.new.lines.now) }
+    {
+        match self.field {
+            FieldChoice::Bits => perform_over::<Bit>(heap, self.elements, rest, shown),
+            FieldChoice::Bytes => perform_over::<Byte>(heap, self.elements, rest, shown),
+            FieldChoice::Fermat => perform_over::<Fermat>(heap, self.elements, rest, shown),
         }
     }
 }
@@ -190,29 +233,23 @@ impl<'a> Session<'a> {
 pub fn perform(heap: Global, field: FieldChoice, script: &Script) -> Result<Vec<u8>, AllocError>
     ensures shows { IfOk result (λ shown. ShowsFrom field script.now.lines.items shown.items) }
 {
-    let mut session = Session {
-        heap,
-        opening: Opening {
-            field,
-            elements: SHELF,
-        },
+    let mut rest = Rest {
+        lines: script.lines.as_slice(),
         given: Given {
             work: WORK,
             output: LONGEST,
         },
-        tasks: Vec::new(heap),
-        shown: Vec::new(heap),
     };
-    for line in script.lines.iter() {
-        session.line(line)?;
+    let mut shown = Vec::new(heap);
+    let mut opening = Opening {
+        field,
+        elements: SHELF,
+    };
+    let mut close = opening.perform(heap, &mut rest, &mut shown)?;
+    while let Some(next) = close.opening(opening.field) {
+        opening = next;
+        close = opening.perform(heap, &mut rest, &mut shown)?;
     }
-    let Session {
-        opening,
-        tasks,
-        mut shown,
-        ..
-    } = session;
-    opening.perform(heap, tasks.as_slice(), &mut shown)?;
     Ok(shown)
 }
 
