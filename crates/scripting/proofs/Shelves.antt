@@ -4,7 +4,7 @@ use Rattle.std.proofs.Math.Seq.{take-length}
 use Rattle.command.specs.declared.field_choice.FieldChoice.{FieldChoice}
 use Rattle.scripting.specs.Mistakes.{wrong}
 use Rattle.scripting.specs.Performing.{Shows, Step, last, chooses, opens, lends, calls, mistaken}
-use Rattle.scripting.specs.Closing.{opened, lines_of, ShowsOn, Leads, Performs}
+use Rattle.scripting.specs.Closing.{opened, ShowsOn, Leads, Performs}
 use Rattle.scripting.specs.declared.order.Given.{Given}
 use Rattle.scripting.specs.declared.order.Order.TheVariants as orders
 use Rattle.scripting.specs.declared.reading.Entry.TheVariants as entries
@@ -19,9 +19,6 @@ use Rattle.scripting.specs.declared.performing.Next.TheVariants as nexts
 pub record Passes (g : Given) (lines : List Line) (h : Given) (rest : List Line) : Type 0 where
   pub within : length rest ≤ length lines
   pub onward : (o : Opening) (tasks : List Task) (more : List ℕ) → Shows o h tasks rest more → Shows o g tasks lines more
-
-pub no_line : (g : Given) (lines : List Line) → Passes g lines g lines
-no_line g lines = record { within = omega arith; onward = λ o tasks more shows. shows }
 
 -- a line that shows nothing is passed over
 pub one_line : {g h k : Given} {lines all rest : List Line} (line : Line) → all ≡ line ∷ rest → ((o : Opening) (tasks : List Task) → Step o h tasks line o k tasks [] []) → Passes g lines h all → Passes g lines k rest
@@ -55,12 +52,6 @@ open_next {g} {h} {lines} {all} {rest} line n first is p =
 pub end_next : {g h : Given} {lines rest : List Line} → rest ≡ [] → Passes g lines h rest → Leads g lines (nexts.Close closes.End) h rest
 end_next {g} {h} {lines} {rest} none p =
     (omega (arith, p.within), λ o tasks text more makes ends. p.onward o tasks (text ++ more) (subst (λ ls. Shows o h tasks ls (text ++ more)) (sym none) (subst (λ t. Shows o h tasks [] t) (sym (ap (λ m. text ++ m) ends ∙ append-nil text)) (last text makes))))
-
--- a shelf is opened by a line
-pub a_line : (f : FieldChoice) (t : Close) (o : Opening) → opened f t ≡ Some o → lines_of t ≡ 1
-a_line f (closes.Field g) o e = refl
-a_line f (closes.Open n) o e = refl
-a_line f closes.End o e = absurd (cc)
 
 -- on from the next opening
 pub further : {o p : Opening} {q r : Option Opening} {g h k : Given} {lines mid rest : List Line} {a b c : List ℕ} → q ≡ Some p → Performs o g lines q h mid a b → Performs p h mid r k rest b c → Performs o g lines r k rest a c
