@@ -165,6 +165,7 @@ mod tests {
     fn rows_of_residues_as_wide_as_two_tables(rt: HostRuntime) {
         let minus_one = Fermat::one().neg();
         let row = [minus_one; 32];
+        assert_eq!(rt; Fermat::dot(&row, &row, 0, 1).code(), 32);
         let matrix = [minus_one; 1024];
         let mut product = [Fermat::zero(); 32];
         Fermat::row_times_matrix(&row, &matrix, &mut product);

@@ -6,7 +6,7 @@ use Rattle.std.proofs.lemmas.Nat.{mul-le, mul-mod}
 use Rattle.std.proofs.lemmas.List.{get_or-map, get_or-set_same, get_or-set_other, get_or-take, get_or_past, length-take}
 use Rattle.field.specs.Below.{Below, same_below}
 use Rattle.field.specs.Rows.{at, Agree, RowOf}
-use Rattle.field.specs.Sums.{move, less_rows}
+use Rattle.field.specs.Sums.{dot, move, less_rows}
 use Rattle.field.proofs.Laws.{neg_times, neg_zero, one_times, zero_plus, zero_times}
 use Rattle.field.proofs.Rows.{sum_more, less_rows_more}
 use Rattle.residue.specs.Prime.{Prime}
@@ -36,6 +36,14 @@ module _ {p : ℕ} (pr : Prime p) where
   -- the residue of a number in a list
   pub at_number : (xs : List ℕ) (i : ℕ) → i < length xs → residue_of p pr (get_or xs i 0) ≡ at (residues p pr) (residue_of p pr) xs i
   at_number xs i h = sym (get_or-map (residue_of p pr) xs i 0 (residues p pr).zero h)
+
+  -- a sum of products, to which one product more is added
+  pub dot_more : (i s m : ℕ) (f h : ℕ → Below p) (x y : Below p) → residue_of p pr s ≡ dot (residues p pr) i f h → m ≡ x.n * y.n → x ≡ f i → y ≡ h i
+      → residue_of p pr (s + m) ≡ dot (residues p pr) (i + 1) f h
+  dot_more i s m f h x y stands e here there =
+      ap (λ z. residue_of p pr (s + z)) e ∙ residue_more s x.n y
+      ∙ ap₂ (residues p pr).plus stands (ap₂ (residues p pr).times (residue_same x ∙ here) there)
+      ∙ sum_more (residues p pr) i (λ k. (residues p pr).times (f k) (h k))
 
 -- products of two numbers up to 65537
 pub product_small : (a b : ℕ) → a ≤ 65537 → b ≤ 65537 → a * b ≤ 65537 * 65537

@@ -1,7 +1,7 @@
 -- Sums of products that are not yet reduced: their residues, and their sizes. Assumes nothing.
-use Rattle.std.specs.Prelude.{ℕ, ◌≤◌, List, length, slice_index}
+use Rattle.std.specs.Prelude.{◌≡◌, ℕ, ◌≤◌, List, length, slice_index}
 use Rattle.field.specs.Below.{Below}
-use Rattle.field.specs.Rows.{at, RowOf}
+use Rattle.field.specs.Rows.{at, column_dot, RowOf}
 use Rattle.residue.specs.declared.Residue.{Residue}
 use Rattle.residue.specs.Prime.{Prime}
 use Rattle.residue.specs.Operations.{residue_of}
@@ -24,6 +24,12 @@ module _ {p : ℕ} (pr : Prime p) where
   abbrev pub plus_multiple : (ℕ → Below p) → ℕ → (ℕ → Below p) → ℕ → Below p
   plus_multiple x c y j =
       (residues p pr).plus (x j) ((residues p pr).times (residue_of p pr c) (y j))
+
+  -- the residue of the sum is the row xs times the column of ys whose elements lie `step` apart from
+  -- `column` on
+  abbrev pub DotSummed : List (Residue p) → List (Residue p) → ℕ → ℕ → ℕ → Type 0
+  DotSummed xs ys column step sum =
+      residue_of p pr sum ≡ column_dot (residues p pr) value_of xs ys column step
 
   -- the residues of the new sums are those of the old ones, plus c times the row
   abbrev pub MultipleAdded : ℕ → List (Residue p) → List ℕ → List ℕ → Type 0

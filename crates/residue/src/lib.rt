@@ -10,10 +10,11 @@ ghost use Rattle.residue.specs.Proofs.Primality.{prime_by};
 
 mod sums;
 
-use crate::sums::{add_multiple, residue, with_room, write_residues};
+use crate::sums::{add_multiple, narrow_dot, residue, with_room, write_residues};
 use field::Field;
 
-/// The longest row whose sums are kept in an array: as long as two tables of 16 states together.
+/// The longest row whose sums are kept in an array, and whose products are summed without a test: as
+/// long as two tables of 16 states together.
 const NARROW: usize = 32;
 
 /// GF(2).
@@ -110,8 +111,11 @@ where
         u64::from(P)
     }
 
-    // The sum is reduced before it overflows, so the row may have any length.
+    // In a row longer than `NARROW` the sum is reduced before it overflows, so a row may have any length.
     fn dot(row: &[Residue<P>], ys: &[Residue<P>], column: usize, step: usize) -> Residue<P> {
+        if row.len() <= NARROW {
+            return residue(narrow_dot(row, ys, column, step));
+        }
         let mut sum = 0;
         for (i, x) in row.iter().enumerate() {
             sum = with_room::<P>(sum) + u64::from(x.n) * u64::from(ys[column + i * step].n);

@@ -1,7 +1,7 @@
 //! Sums of products of residues in 64 bits, reduced once at the end.
-ghost use Rattle.std.specs.Prelude.{◌≡◌, ℕ, ◌+◌, ◌*◌, ◌^◌, ◌≤◌, length};
+ghost use Rattle.std.specs.Prelude.{◌≡◌, ℕ, ◌+◌, ◌*◌, ◌^◌, ◌<◌, ◌≤◌, length};
 ghost use Rattle.residue.specs.Operations.{residue_of};
-ghost use Rattle.residue.specs.Sums.{UpTo, MultipleAdded, ResiduesWritten, value_of};
+ghost use Rattle.residue.specs.Sums.{UpTo, DotSummed, MultipleAdded, ResiduesWritten, value_of};
 
 use crate::{PrimeModulus, Residue};
 use field::Field;
@@ -32,6 +32,28 @@ where
     } else {
         sum
     }
+}
+
+/// A number whose residue is the row times the column of `ys` whose elements lie `step` apart from
+/// `column` on. All products of a row of up to 32 elements fit in one sum, so it is not tested in
+/// between.
+pub fn narrow_dot<const P: u32>(
+    row: &[Residue<P>],
+    ys: &[Residue<P>],
+    column: usize,
+    step: usize,
+) -> u64
+where
+    Residue<P>: PrimeModulus<P>,
+    requires narrow { length row.now ≤ 32 }
+    requires column_within { (i : ℕ) → i < length row.now → column + i * step < length ys.now }
+    ensures is_dot_product { DotSummed bound-1.prime row.now ys.now column step result }
+{
+    let mut sum = 0;
+    for (i, x) in row.iter().enumerate() {
+        sum += u64::from(x.n) * u64::from(ys[column + i * step].n);
+    }
+    sum
 }
 
 /// Adds to each sum `factor` times the element of the row at its index.

@@ -1,11 +1,11 @@
-use Rattle.std.proofs.Common.{◌≡◌, ◌+◌, ◌*◌, ◌≤◌, ap, ap₂, ◌∙◌, arith, mod-eq_of_lt}
+use Rattle.std.proofs.Common.{◌≡◌, ◌+◌, ◌*◌, ◌≤◌, ◌∙◌, arith, mod-eq_of_lt}
 use Rattle.field.specs.Below.{same_below}
 use Rattle.field.specs.Rows.{at}
-use Rattle.field.proofs.Rows.{at_read, sum_more}
-use Rattle.residue.specs.Operations.{residue_of, positive}
+use Rattle.field.proofs.Rows.{at_read}
+use Rattle.residue.specs.Operations.{positive}
 use Rattle.residue.specs.Residues.{residues}
 use Rattle.residue.specs.Sums.{value_of}
-use Rattle.residue.proofs.Late.{residue_more, residue_same, product_small}
+use Rattle.residue.proofs.Late.{dot_more, product_small}
 use Rattle.residue.proofs.ResidueField.dot.Goals as goal
 
 pub loop-i-init : goal.loop-i-init
@@ -17,21 +17,18 @@ loop-i-init g c = record {
 pub loop-i-preserved : goal.loop-i-preserved
 loop-i-preserved g c =
     let p = g.row.P in let pr = g.bound-1.prime in
-    let K = residues p pr in let r = residue_of p pr in
+    let K = residues p pr in
     let a = c.args in
     let i = c.loop-i.i in
-    let w = c.loop-i.invariant in
     let x = c.index-row-i.result in
     let y = c.index-ys-column.result in
-    let kept = c.with_room.result in
     let e : c.from.result * c.from-in-loop-i.result ≡ x.n * y.n = cc in
     let small : x.n * y.n ≤ 65537 * 65537 = product_small x.n y.n (omega (arith, x.below, pr.high)) (omega (arith, y.below, pr.high)) in
     record {
       small = omega (arith, e, small, c.with_room.ensures.room);
       stands =
-          ap (λ z. r (kept + z)) e ∙ residue_more pr kept x.n (value_of y)
-          ∙ ap₂ K.plus (c.with_room.ensures.same_residue ∙ w.stands)
-          (ap₂ K.times (residue_same pr (value_of x) ∙ at_read K value_of a.row.now i x (omega arith) c.index-row-i.is)
-          (at_read K value_of a.ys.now (a.column + i * a.step) y (c.requires.column_within i (omega arith)) c.index-ys-column.is))
-          ∙ sum_more K i (λ k. K.times (at K value_of a.row.now k) (at K value_of a.ys.now (a.column + k * a.step)));
+          dot_more pr i c.with_room.result (c.from.result * c.from-in-loop-i.result) (at K value_of a.row.now) (λ k. at K value_of a.ys.now (a.column + k * a.step)) (value_of x) (value_of y)
+          (c.with_room.ensures.same_residue ∙ c.loop-i.invariant.stands) e
+          (at_read K value_of a.row.now i x (omega arith) c.index-row-i.is)
+          (at_read K value_of a.ys.now (a.column + i * a.step) y (c.requires.column_within i (omega arith)) c.index-ys-column.is);
     }
